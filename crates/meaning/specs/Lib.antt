@@ -1,0 +1,10 @@
+pub mod Rules
+pub mod Limits
+pub mod Refusals
+pub mod Numbers
+pub mod Utf8
+pub mod Shape
+pub mod FirstByte
+pub mod Encode
+pub mod Within
+pub mod Reading

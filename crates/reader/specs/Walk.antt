@@ -1,0 +1,221 @@
+-- NOT TO BE BELIEVED: proved equal to reading (proofs/Whole.antt, `walk-reading`). Private functions' contracts cite it, no public one does.
+-- 01-scope.md, "Reading order", once more, as the code goes: by places in the input s, in a window that ends at end. What is made of the
+-- shapes on the way is left open (`Fold`), so that one theorem serves every walk over an input.
+use Prim.Native.Nat.{ℕ, zero, suc, _+_, _-_, _<_, _≤_, max}
+use mathlib.Core.List.{List}
+use mathlib.Core.Bool.{Bool, true, false}
+use lib.ListN.{length, getD}
+use lib.Seq.{slice}
+use lib.Dec.{ltb, leb, eqb}
+use Rattle.meaning.specs.Rules.{_⇒_∣_}
+use Rattle.meaning.specs.Limits.{maxBytes, maxLevels}
+use Rattle.meaning.specs.Refusals.{cutShort, notAssigned, sizeWrong, notUtf8, longForm, tooDeep, inputTooLong}
+use Rattle.meaning.specs.Numbers.{ofTwo}
+use Rattle.meaning.specs.Utf8.{utf8}
+use Rattle.meaning.specs.FirstByte.{shortBlanks, primByte, classOf}
+use Rattle.leaves.specs.Leb.{lebAt}
+use Rattle.leaves.specs.declared.Leb.{Leb}
+use Rattle.leaves.specs.declared.Leb.the-variants.{Number, Fault}
+use Rattle.reader.specs.First.{firstSaid}
+use Rattle.reader.specs.declared.first.Kind.{Kind}
+use Rattle.reader.specs.declared.first.Kind.the-variants.{Array, Map, Record, Function, Symbol, Variable}
+use Rattle.reader.specs.declared.first.First.{First}
+use Rattle.reader.specs.declared.first.First.the-variants.{Unassigned, Short, Long}
+use Rattle.reader.specs.declared.payload.Text.{Text}
+use Rattle.reader.specs.declared.payload.Text.the-variants.{Whole, Bad}
+use Rattle.reader.specs.declared.payload.Opening.{Opening}
+use Rattle.reader.specs.declared.payload.Opening.the-variants.{Items, Closed}
+use Rattle.reader.specs.declared.Walked.{Walked}
+use Rattle.reader.specs.declared.Walked.the-variants.{Shape, Refused}
+
+-- a text after its length
+unfoldable pub textFrom : List ℕ → ℕ → ℕ → Leb → Text
+textFrom s end at (Fault number) = Bad number at
+textFrom s end at (Number size start) =
+    ltb (end - start) size ⇒ Bad cutShort at ∣ λ _.
+    utf8 (slice start (start + size) s) ⇒ Whole start (start + size) ∣ λ _.
+    Bad notUtf8 start
+
+unfoldable pub textAt : List ℕ → ℕ → ℕ → Text
+textAt s end at = textFrom s end at (lebAt s end at)
+
+-- whether each item of a payload's list has a text, and whether it has a shape
+abbrev pub named : Kind → Bool
+named Array = false
+named Map = false
+named Record = true
+named Function = false
+named Symbol = true
+named Variable = false
+
+abbrev pub shaped : Kind → Bool
+shaped Array = true
+shaped Map = true
+shaped Record = true
+shaped Function = true
+shaped Symbol = false
+shaped Variable = false
+
+-- an item's text, where it has one
+unfoldable pub labelAt : List ℕ → ℕ → ℕ → Kind → Text
+labelAt s end at kind = named kind ⇒ textAt s end at ∣ λ _. Whole at at
+
+-- the list of a payload from start to stop: where it starts and how many items it has
+unfoldable pub countedBy : ℕ → ℕ → ℕ → Leb → Opening
+countedBy stop start more (Fault number) = Closed number start
+countedBy stop start more (Number count from) = Items stop from (count + more)
+
+unfoldable pub countedAt : List ℕ → ℕ → ℕ → ℕ → Opening
+countedAt s stop start more = countedBy stop start more (lebAt s stop start)
+
+unfoldable pub listOf : List ℕ → ℕ → ℕ → ℕ → Kind → Opening
+listOf s at start stop Array = Items stop start 1
+listOf s at start stop Map = Items stop start 2
+listOf s at start stop Record = countedAt s stop start 0
+listOf s at start stop Function = countedAt s stop start 1
+listOf s at start stop Symbol = countedAt s stop start 0
+listOf s at start stop Variable = eqb (stop - start) 2 ⇒ Items stop stop 0 ∣ λ _. Closed sizeWrong at
+
+-- after the first byte come the size and the payload
+abbrev pub sizeAt : List ℕ → ℕ → ℕ
+sizeAt s at = ofTwo (getD s at 0) (getD s (at + 1) 0)
+
+unfoldable pub openingAt : List ℕ → ℕ → ℕ → Kind → Opening
+openingAt s end at kind =
+    ltb (end - at) 3 ⇒ Closed cutShort at ∣ λ _.
+    ltb (end - at - 3) (sizeAt s (at + 1)) ⇒ Closed cutShort at ∣ λ _.
+    listOf s at (at + 3) (at + 3 + sizeAt s (at + 1)) kind
+
+-- what every list has: its payload lies in the window, and its items are few
+abbrev pub OpeningInside : ℕ → ℕ → Opening → Type 0
+OpeningInside start end (Items stop from count) = (start ≤ stop) × (stop ≤ end) × (count ≤ 16384)
+OpeningInside start end (Closed number place) = Unit {0}
+
+-- a byte is a primitive, a primitive stands there
+abbrev pub primitive : ℕ → Bool
+primitive b = ltb b (primByte 0) ⇒ false ∣ λ _. ltb b (primByte 5)
+
+unfoldable pub primitiveAt : List ℕ → ℕ → ℕ → Bool
+primitiveAt s end at = leb end at ⇒ false ∣ λ _. primitive (getD s at 0)
+
+-- the number of a short blank stands there in two bytes
+unfoldable pub smallAt : List ℕ → ℕ → ℕ → Bool
+smallAt s end at =
+    ltb (end - at) 2 ⇒ false ∣ λ _.
+    eqb (getD s (at + 1) 0) 0 ⇒ ltb (getD s at 0) shortBlanks ∣ λ _.
+    false
+
+-- the shape whose payload is read to its end has a form of one byte too
+unfoldable pub shortFormOf : List ℕ → ℕ → ℕ → Kind → Bool
+shortFormOf s start stop Array = primitiveAt s stop start
+shortFormOf s start stop Map = primitiveAt s stop start ⇒ primitiveAt s stop (start + 1) ∣ λ _. false
+shortFormOf s start stop Record = false
+shortFormOf s start stop Function = false
+shortFormOf s start stop Symbol = false
+shortFormOf s start stop Variable = smallAt s stop start
+
+-- what is made on the way and the place after it, or where the walk stopped, with the refusal's number
+pub data Out (X : Type 0) : Type 0 where
+  came : ℕ → X → Out X
+  stopped : ℕ → ℕ → Out X
+
+-- what is made: of a shape of one byte (the byte, its depth), of a payload's items one after the other (from start on, each one's text and
+-- then its shape), of a Variable's number, and of a payload by its kind
+pub record Fold (X A : Type 0) : Type 0 where
+  pub short : ℕ → ℕ → X
+  pub start : A
+  pub text : Kind → A → List ℕ → A
+  pub item : A → X → A
+  pub variable : ℕ → A → X
+  pub made : Kind → A → X
+
+-- the first fault ends the walk
+abbrev pub afterText : {X : Type 0} → Text → (ℕ → ℕ → Out X) → Out X
+afterText (Whole start next) go = go start next
+afterText (Bad number place) go = stopped number place
+
+abbrev pub after : {X Y : Type 0} → Out X → (ℕ → X → Out Y) → Out Y
+after (came next v) go = go next v
+after (stopped number place) go = stopped number place
+
+abbrev pub afterOpening : {X : Type 0} → Opening → (ℕ → ℕ → ℕ → Out X) → Out X
+afterOpening (Items stop from count) go = go stop from count
+afterOpening (Closed number place) go = stopped number place
+
+-- what walks over something at a place of a window
+abbrev pub Walker : Type 0 → Type 0
+Walker X = List ℕ → ℕ → ℕ → Out X
+
+module _ {X A : Type 0} (F : Fold X A) where
+  unfoldable pub madeOf : List ℕ → ℕ → Kind → A → X
+  madeOf s start Array a = F .made Array a
+  madeOf s start Map a = F .made Map a
+  madeOf s start Record a = F .made Record a
+  madeOf s start Function a = F .made Function a
+  madeOf s start Symbol a = F .made Symbol a
+  madeOf s start Variable a = F .variable (sizeAt s start) a
+
+  -- a payload's end: the items came to next
+  unfoldable pub closing : List ℕ → ℕ → ℕ → Kind → ℕ → A → Out X
+  closing s at stop kind next a =
+      eqb next stop ⇒ (shortFormOf s (at + 3) stop kind ⇒ stopped longForm at ∣ λ _. came stop (madeOf s (at + 3) kind a)) ∣ λ _.
+      stopped sizeWrong at
+
+  -- the items of a payload's list, of which inner walks over each shape; a is made of those before
+  unfoldable pub walkItems : Walker X → Kind → ℕ → List ℕ → ℕ → ℕ → A → Out A
+  walkItems inner kind zero s end at a = came at a
+  walkItems inner kind (suc count) s end at a =
+      afterText (labelAt s end at kind) λ start next.
+      shaped kind ⇒
+      (after (inner s end next) λ past v. walkItems inner kind count s end past (F .item (F .text kind a (slice start next s)) v))
+      ∣ λ _. walkItems inner kind count s end next (F .text kind a (slice start next s))
+
+  -- a shape by its first byte, with so many levels left, its own among them; inner walks over the shapes of its payload
+  unfoldable pub byFirst : ℕ → Walker X → List ℕ → ℕ → ℕ → First → Out X
+  byFirst left inner s end at Unassigned = stopped notAssigned at
+  byFirst left inner s end at (Short levels) =
+      ltb left levels ⇒ stopped tooDeep at ∣ λ _.
+      came (at + 1) (F .short (getD s at 0) levels)
+  byFirst left inner s end at (Long kind) =
+      eqb left 0 ⇒ stopped tooDeep at ∣ λ _.
+      afterOpening (openingAt s end at kind) λ stop from count.
+      after (walkItems inner kind count s stop from (F .start)) λ next a.
+      closing s at stop kind next a
+
+  unfoldable pub shapeWith : ℕ → Walker X → Walker X
+  shapeWith left inner s end at =
+      leb end at ⇒ stopped cutShort at ∣ λ _.
+      byFirst left inner s end at (firstSaid (classOf (getD s at 0)))
+
+  unfoldable pub walkShape : ℕ → Walker X
+  walkShape zero = shapeWith zero (λ s end at. stopped tooDeep at)
+  walkShape (suc left) = shapeWith (suc left) (walkShape left)
+
+  -- the whole input
+  unfoldable pub walkAll : List ℕ → Out X
+  walkAll s =
+      ltb maxBytes (length s) ⇒ stopped inputTooLong maxBytes ∣ λ _.
+      after (walkShape maxLevels s (length s) 0) λ next v.
+      eqb next (length s) ⇒ came next v ∣ λ _.
+      stopped sizeWrong next
+
+-- the depth, made on the way
+abbrev pub depths : Fold ℕ ℕ
+depths = record {
+  short = λ b levels. levels;
+  start = 0;
+  text = λ kind deep t. deep;
+  item = max;
+  variable = λ n deep. deep + 1;
+  made = λ kind deep. deep + 1;
+}
+
+-- what the code's own answers say
+abbrev pub told : Walked → Out ℕ
+told (Shape next depth) = came next depth
+told (Refused number place) = stopped number place
+
+-- what every answer of the reader has: the shape is no deeper than the levels left
+abbrev pub WalkedInside : ℕ → Walked → Type 0
+WalkedInside left (Shape next depth) = depth ≤ left
+WalkedInside left (Refused number place) = Unit {0}
