@@ -1,11 +1,9 @@
--- Laws of text: how far a text is well formed, character by character.
---     goes-short            no character goes on past the window
---     char-fits             a character lies inside the window
---     chars-fuel            how far the characters go does not depend on the bound, where it is large enough
---     well-on, well-stop    a character takes the text past itself; where none is, the text stops
---     char-on, ascii-on     the same of a window, for a character and for a byte under 128
---     size-steps            the bytes after a first byte by index: the tests that the code makes, in its order
---     utf8-to               a text is UTF-8 where it is well formed to its window's end
+-- Laws of text: how far bytes are well-formed characters.
+--     goes-short                no character goes on past its window
+--     chars-fuel                how far the characters go does not depend on the bound, where it is large enough
+--     well-on, well-stop        a character takes the text past itself; where none is, the text stops
+--     char-first, size-steps    a character by index: the tests that the code makes, in its order
+--     utf8-to                   a text is UTF-8 where it is well formed to its window's end
 -- Assumes nothing.
 use mathlib.Core.Path.{_≡_, refl, sym, ap, _∙_}
 use mathlib.Core.Bool.{Bool, true, false}
@@ -19,8 +17,8 @@ use borrow.Author.Tests.{ne-eqb, lt-leb}
 use Rattle.meaning.specs.Rules.{_⇒_∣_}
 use Rattle.meaning.specs.Utf8.{goesOn, sizeWith, charSize, charsSize, wellFormed, utf8}
 use Rattle.meaning.proofs.Rules.{tests, facts, rule, both}
-use Rattle.meaning.proofs.Window.{window-none, window-some, window-length, window-drop}
-use Rattle.leaves.specs.Onward.{Onward}
+use Rattle.meaning.proofs.Utf8.{char-le}
+use Rattle.meaning.proofs.Window.{window-some, window-length}
 
 -- Where fewer bytes are left than a character asks for, it does not go on.
 pub goes-short : (n low high : ℕ) (w : List ℕ) → length w < n → goesOn n low high w ≡ false
@@ -32,32 +30,6 @@ goes-short (suc n) low high (c ∷ w) h =
     rule (λ t. t ≡ false) (ltb high c) _ _ (λ _. refl) λ _.
     goes-short n 128 191 w (omega arith)
 
--- A character with n more bytes lies inside its window.
-size-fits : (n low high : ℕ) (w : List ℕ) → sizeWith n low high w ≤ suc (length w)
-size-fits n low high w = go (leb n (length w)) refl
-  where
-    go : (t : Bool) → leb n (length w) ≡ t → sizeWith n low high w ≤ suc (length w)
-    go true p = rule (λ k. k ≤ suc (length w)) (goesOn n low high w) _ _ (λ _. omega (arith, facts)) (λ _. omega arith)
-    go false p = rw (goes-short n low high w (omega (arith, facts))) (omega arith)
-
--- A character lies inside its window.
-pub char-fits : (w : List ℕ) → charSize w ≤ length w
-unfolding charSize
-char-fits [] = omega arith
-char-fits (b ∷ w) =
-    rule P (ltb b 128) _ _ (λ _. omega arith) λ _.
-    rule P (ltb b 194) _ _ (λ _. omega arith) λ _.
-    rule P (ltb b 224) _ _ (λ _. size-fits 1 128 191 w) λ _.
-    rule P (eqb b 224) _ _ (λ _. size-fits 2 160 191 w) λ _.
-    rule P (eqb b 237) _ _ (λ _. size-fits 2 128 159 w) λ _.
-    rule P (ltb b 240) _ _ (λ _. size-fits 2 128 191 w) λ _.
-    rule P (eqb b 240) _ _ (λ _. size-fits 3 144 191 w) λ _.
-    rule P (ltb b 244) _ _ (λ _. size-fits 3 128 191 w) λ _.
-    rule P (eqb b 244) _ _ (λ _. size-fits 3 128 143 w) λ _. omega arith
-  where
-    P : ℕ → Type 0
-    P k = k ≤ suc (length w)
-
 -- Where no character is, the characters end.
 chars-stop : (n : ℕ) (w : List ℕ) → charSize w ≡ 0 → charsSize n w ≡ 0
 unfolding charsSize
@@ -67,8 +39,8 @@ chars-stop (suc n) w h = search tests
 -- A bound of as many characters as there are bytes is large enough.
 pub chars-fuel : (n m : ℕ) (w : List ℕ) → length w ≤ n → length w ≤ m → charsSize n w ≡ charsSize m w
 unfolding charsSize
-chars-fuel zero m w h k = sym (chars-stop m w (let f = char-fits w in omega arith))
-chars-fuel (suc n) zero w h k = chars-stop (suc n) w (let f = char-fits w in omega arith)
+chars-fuel zero m w h k = sym (chars-stop m w (let f = char-le w in omega arith))
+chars-fuel (suc n) zero w h k = chars-stop (suc n) w (let f = char-le w in omega arith)
 chars-fuel (suc n) (suc m) w h k =
     both (λ x y. x ≡ y) (eqb (charSize w) 0) _ _ _ _ (λ _. refl) λ p.
     ap (λ x. charSize w + x)
@@ -83,26 +55,11 @@ well-stop w h = chars-stop (length w) w h
 pub well-on : (w : List ℕ) → (charSize w ≡ 0 → ⊥) → wellFormed w ≡ charSize w + wellFormed (drop (charSize w) w)
 unfolding wellFormed charsSize
 well-on w h =
-    let f = char-fits w in
+    let f = char-le w in
     chars-fuel (length w) (suc (length w)) w (omega arith) (omega arith)
     ∙ rw (ne-eqb (charSize w) 0 h)
-    (ap (λ x. charSize w + x) (chars-fuel (length w) (length (drop (charSize w) w)) (drop (charSize w) w) (rw length-drop (omega arith)) (omega arith)))
-
-module _ (s : List ℕ) (a e : ℕ) (k : e ≤ length s) where
-  -- A character of n bytes takes the text n on.
-  pub char-on : (n : ℕ) → n ≡ charSize (slice a e s) → (n ≡ 0 → ⊥) → a < e → Onward s e a (a + n)
-  char-on n h z l =
-      let f = char-fits (slice a e s) in let g = window-length s a e k in
-      record {
-        after = omega arith;
-        inside = omega arith;
-        same = rw (well-on (slice a e s) (λ q. z (h ∙ q)), ← h, window-drop s a e n) (omega arith);
-      }
-
-  -- A byte under 128 takes the text one on.
-  pub ascii-on : a < e → getD s a 0 < 128 → Onward s e a (a + 1)
-  unfolding charSize
-  ascii-on l b = char-on 1 (rw (window-some s a e l k) (search tests)) (λ z. absurd (omega arith)) l
+    (ap (λ x. charSize w + x)
+    (chars-fuel (length w) (length (drop (charSize w) w)) (drop (charSize w) w) (rw length-drop (omega arith)) (omega arith)))
 
 -- The character at a place begins with the byte there.
 pub char-first : (s : List ℕ) (e at : ℕ) → at < e → e ≤ length s → charSize (slice at e s) ≡ charSize (getD s at 0 ∷ slice (at + 1) e s)
@@ -143,8 +100,13 @@ size-steps s e at more low high k h i j = go (leb (e - at) more) refl
   where
     long : (m : ℕ) → 0 < m → m < 4 → m < e - at → sizeWith m low high (slice (at + 1) e s) ≡ sizeSteps s e at m low high
     long zero i j l = absurd (omega arith)
-    long (suc zero) i j l = rw (lt-leb (e - at) 1 l) (more-on s e k 0 low high 2 (at + 1) (at + 2) _ (omega arith) (omega arith) refl)
-    long (suc (suc zero)) i j l = rw (lt-leb (e - at) 2 l) (more-on s e k 1 low high 3 (at + 1) (at + 2) _ (omega arith) (omega arith) (more-on s e k 0 128 191 3 (at + 2) (at + 3) _ (omega arith) (omega arith) refl))
+    long (suc zero) i j l =
+        rw (lt-leb (e - at) 1 l)
+        (more-on s e k 0 low high 2 (at + 1) (at + 2) _ (omega arith) (omega arith) refl)
+    long (suc (suc zero)) i j l =
+        rw (lt-leb (e - at) 2 l)
+        (more-on s e k 1 low high 3 (at + 1) (at + 2) _ (omega arith) (omega arith)
+        (more-on s e k 0 128 191 3 (at + 2) (at + 3) _ (omega arith) (omega arith) refl))
     long (suc (suc (suc zero))) i j l =
         rw (lt-leb (e - at) 3 l)
         (more-on s e k 2 low high 4 (at + 1) (at + 2) _ (omega arith) (omega arith)
@@ -165,30 +127,3 @@ utf8-to s a e h k = rw (window-length s a e k) (go (eqb (wellFormed (slice a e s
     go : (t : Bool) → eqb (wellFormed (slice a e s)) (e - a) ≡ t → eqb (a + wellFormed (slice a e s)) e ≡ t
     go true p = let q : a + wellFormed (slice a e s) ≡ e = omega (arith, facts) in search tests
     go false p = ne-eqb _ _ (λ (q : a + wellFormed (slice a e s) ≡ e). omega (arith, facts))
-
--- The way from a place to itself, and two ways in turn.
-pub stay : (s : List ℕ) (e a : ℕ) → a ≤ e → Onward s e a a
-stay s e a h = record { after = omega arith; inside = h; same = refl }
-
-pub follow : {s : List ℕ} {e a b c : ℕ} → Onward s e a b → Onward s e b c → Onward s e a c
-follow p q = record { after = omega arith; inside = q .inside; same = p .same ∙ q .same }
-
--- Four bytes under 128 take the text four on.
-pub four-on : (s : List ℕ) (e a : ℕ) → e ≤ length s → a + 4 ≤ e
-    → getD s a 0 < 128 → getD s (a + 1) 0 < 128 → getD s (a + 2) 0 < 128 → getD s (a + 3) 0 < 128 → Onward s e a (a + 4)
-four-on s e a k h p q r t =
-    follow (on a (a + 1) (omega arith) (omega arith) p)
-    (follow (on (a + 1) (a + 2) (omega arith) (omega arith) q)
-    (follow (on (a + 2) (a + 3) (omega arith) (omega arith) r)
-    (on (a + 3) (a + 4) (omega arith) (omega arith) t)))
-  where
-    on : (b c : ℕ) → b + 1 ≡ c → b < e → getD s b 0 < 128 → Onward s e b c
-    on b c i j x = rw i at (ascii-on s b e k j x)
-
--- Where the way ends at no character, or at the window's end, the text is well formed up to there.
-pub stop-here : {s : List ℕ} {e a b : ℕ} → Onward s e a b → charSize (slice b e s) ≡ 0 → b ≡ a + wellFormed (slice a e s)
-stop-here {s} {e} {a} {b} p h = let q = p .same in let r = well-stop (slice b e s) h in omega arith
-
-pub end-here : {s : List ℕ} {e a b : ℕ} → Onward s e a b → e ≤ b → b ≡ a + wellFormed (slice a e s)
-unfolding charSize
-end-here {s} {e} {a} {b} p h = stop-here p (rw (window-none s b e h))

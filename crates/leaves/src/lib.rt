@@ -144,37 +144,53 @@ fn char_at(s: &[u8], end: usize, at: usize) -> usize
     0
 }
 
-// Whether four bytes stand at a place of a window, each of them a character.
-fn four_at(s: &[u8], end: usize, at: usize) -> bool
+// Whether a block of bytes stands at a place of a window, each of them a character: one test for all, of which the compiler makes vector code.
+fn block_at(s: &[u8], end: usize, at: usize, size: usize) -> bool
     requires { ⌜ (at ≤ end) × (end ≤ length (now s)) ⌝ }
-    ensures { λ r. ⌜ (r ≡ true → Onward (now (s .entry)) end at (at + 4)) ⌝ }
+    ensures { λ r. ⌜ (r ≡ true → Onward (now (s .entry)) end at (at + size)) ⌝ }
 {
-    if end - at < 4 {
+    if end - at < size {
         return false;
     }
-    if 128 <= s[at] {
-        return false;
+    let mut bits: u8 = 0;
+    let mut i = 0;
+    while i < size {
+        bits = bits | s[at + i];
+        i += 1;
     }
-    if 128 <= s[at + 1] {
-        return false;
-    }
-    if 128 <= s[at + 2] {
-        return false;
-    }
-    if 128 <= s[at + 3] {
-        return false;
-    }
-    true
+    bits < 128
 }
 
-// A place that a text goes on to by bytes that are each a character: most texts have no others.
+// The place after the blocks of bytes that are each a character.
+fn past_blocks(s: &[u8], end: usize, from: usize, size: usize) -> usize
+    requires { ⌜ (from ≤ end) × (end ≤ length (now s)) × (0 < size) ⌝ }
+    ensures { λ r. ⌜ Onward (now (s .entry)) end from r ⌝ }
+{
+    let mut at = from;
+    while block_at(s, end, at, size) {
+        at += size;
+    }
+    at
+}
+
+// The size of the blocks that are tried first: measured, the best of 16, 32 and 64.
+const WIDE: usize = 64;
+
+// The size of those that are tried after them.
+const NARROW: usize = 8;
+
+// The place after the bytes that are each a character: most texts have no others.
 fn past_ascii(s: &[u8], end: usize, from: usize) -> usize
     requires { ⌜ (from ≤ end) × (end ≤ length (now s)) ⌝ }
     ensures { λ r. ⌜ Onward (now (s .entry)) end from r ⌝ }
 {
-    let mut at = from;
-    while four_at(s, end, at) {
-        at += 4;
+    let wide = past_blocks(s, end, from, WIDE);
+    let mut at = past_blocks(s, end, wide, NARROW);
+    while at < end {
+        if 128 <= s[at] {
+            return at;
+        }
+        at += 1;
     }
     at
 }
@@ -184,10 +200,10 @@ pub fn well_formed_to(s: &[u8], end: usize, from: usize) -> usize
     requires { ⌜ (from ≤ end) × (end ≤ length (now s)) ⌝ }
     ensures { λ r. ⌜ r ≡ from + wellFormed (slice from end (now (s .entry))) ⌝ }
 {
-    let mut at = past_ascii(s, end, from);
+    let mut at = from;
     while at < end {
         if s[at] < 128 {
-            at += 1;
+            at = past_ascii(s, end, at + 1);
         } else {
             let n = char_at(s, end, at);
             if n == 0 {

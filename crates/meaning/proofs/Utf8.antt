@@ -1,5 +1,5 @@
 -- What is UTF-8 is bytes, and the characters at the front of a list end within it.
---     char-fits          the first character ends within the list, and is bytes
+--     char-le            the first character ends within the list
 --     well-formed-le     a list is well formed no further than to its end
 --     utf8-bytes         what is UTF-8 is bytes
 -- Assumes nothing.
@@ -18,7 +18,7 @@ use Rattle.meaning.proofs.Rules.{facts, rule}
 use Rattle.meaning.proofs.Window.{bytes-append}
 
 -- the first n elements are there, and are bytes
-abbrev pub Fits : List ℕ → ℕ → Type 0
+abbrev Fits : List ℕ → ℕ → Type 0
 Fits w n = (n ≤ length w) × Bytes (take n w)
 
 -- What goes on fits.
@@ -41,7 +41,7 @@ with-fit b n low high w h k = rule (Fits (b ∷ w)) (goesOn n low high w) (suc n
     (zero-le, tt)
 
 -- The character at the front fits.
-pub char-fits : (w : List ℕ) → Fits w (charSize w)
+char-fits : (w : List ℕ) → Fits w (charSize w)
 unfolding charSize
 char-fits [] = (zero-le, tt)
 char-fits (b ∷ w) =
@@ -56,7 +56,11 @@ char-fits (b ∷ w) =
     rule (Fits (b ∷ w)) (eqb b 244) _ _ (λ p. with-fit b 3 128 143 w (omega (arith, facts)) (omega arith)) λ _.
     (zero-le, tt)
 
--- So do two parts that follow one another.
+-- A character is no longer than the bytes that it begins.
+pub char-le : (w : List ℕ) → charSize w ≤ length w
+char-le w = char-fits w .0
+
+-- Two parts that follow one another fit.
 fits-add : (w : List ℕ) (m n : ℕ) → Fits w m → Fits (drop m w) n → Fits w (m + n)
 fits-add w m n h k =
     let l = rw length-drop at (k .0) in

@@ -1,11 +1,10 @@
 -- `leaves::well_formed_to` meets its contract. The invariant: the text goes on from its start to here.
 -- Assumes nothing.
 use borrow.Author.Needs.{needs}
-use native.Mathlib.Omega.{arith}
 use mathlib.Core.Path.{sym, _∙_}
 use Prim.Native.Nat.{_-_}
 use Rattle.leaves.specs.Onward.{Onward}
-use Rattle.leaves.proofs.Text.{ascii-on, char-on, follow, stop-here, end-here}
+use Rattle.leaves.proofs.Way.{ascii-on, char-on, stay, follow, stop-here, end-here}
 use Rattle.leaves.proofs.well_formed_to.Statement.{statement}
 use Rattle.leaves.proofs.well_formed_to.Tie as tie
 
@@ -17,7 +16,8 @@ abbrev μ-loop : tie.MeasureT-loop
 
 loop-again : tie.Need-loop-again Inv-loop μ-loop
 loop-again c =
-    follow (c .before .before .before .loop .inv) (ascii-on _ _ _ (search needs) (search needs) (search needs))
+    follow (c .before .before .before .before .loop .inv)
+    (follow (ascii-on _ _ _ (search needs) (search needs) (search needs)) (c .past-ascii .ensures))
 
 returns : tie.Need-returns Inv-loop μ-loop
 returns c =
@@ -35,10 +35,10 @@ well-formed-to-spec =
     (tie.spec
     Inv-loop
     μ-loop
+    (λ c. stay _ _ _ (search needs))
+    (λ c. search needs)
+    (λ c. search needs)
     (λ c κs. search needs)
-    (λ c. c .past-ascii .ensures)
-    (λ c. search needs)
-    (λ c. search needs)
     (λ c. search needs)
     loop-again
     (λ c κs. search needs)
