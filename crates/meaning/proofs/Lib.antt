@@ -5,3 +5,4 @@ pub mod Complete
 pub mod Sound
 pub mod Written
 pub mod Laws
+pub mod Faults

@@ -9,6 +9,7 @@ use Rattle.meaning.specs.Utf8.{utf8}
 abbrev pub Text : Type 0
 Text = List ℕ
 
+-- "Int, Float, Bool, Str, Bytes"
 pub data Primitive : Type 0 where
   int float bool str bytes : Primitive
 
@@ -30,6 +31,8 @@ pub data Tree : Sort → Type 0 where
   noParameters : Tree parameters
   parameter : Tree shape → Tree parameters → Tree parameters
 
+-- "A shape is Int, Float, Bool, Str, Bytes, Array of a shape, Map of key and value, Record (a list of name and shape), Function (a list of
+-- parameters and a return), Symbol (a list of texts) or Variable"
 abbrev pub Shape : Type 0
 Shape = Tree shape
 

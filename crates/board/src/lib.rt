@@ -1,0 +1,52 @@
+// Every call that a host makes, on byte slices and plain numbers. Each trusts nobody to have looked first. include/shiulbart.h is this page for C.
+use reader::Judgement;
+ghost use mathlib.Core.Path.{_≡_};
+ghost use Prim.Native.Nat.{_<_};
+ghost use Rattle.meaning.specs.Reading.{reading};
+ghost use Rattle.board.specs.Answers.{answered, refused, readAnswer};
+
+// What every call says. Number 0 is an answer; otherwise number and place are the paper's. A field that a call does not use is 0.
+#[repr(C)]
+pub struct Answer {
+    pub number: u32,
+    pub place: u32,
+    pub length: u32,
+    pub extra: u32,
+}
+
+// An answer in 32 bits a number.
+fn answer_of(length: usize, extra: usize) -> Answer
+    requires { ⌜ (length < 4294967296) × (extra < 4294967296) ⌝ }
+    ensures { λ r. ⌜ r ≡ answered length extra ⌝ }
+{
+    Answer {
+        number: 0,
+        place: 0,
+        length: length as u32,
+        extra: extra as u32,
+    }
+}
+
+// A refusal in 32 bits a number.
+fn refusal_of(number: usize, place: usize) -> Answer
+    requires { ⌜ (number < 4294967296) × (place < 4294967296) ⌝ }
+    ensures { λ r. ⌜ r ≡ refused number place ⌝ }
+{
+    Answer {
+        number: number as u32,
+        place: place as u32,
+        length: 0,
+        extra: 0,
+    }
+}
+
+// Judges an encoding: its length, and its depth as extra, or the refusal.
+#[no_mangle]
+pub extern "C" fn shiulbart_read(bytes: &[u8]) -> Answer
+    ensures { λ r. ⌜ r ≡ readAnswer (reading (now (bytes .entry))) ⌝ }
+{
+    match reader::read(bytes) {
+        Judgement::Refused { number, place } => refusal_of(number, place),
+        Judgement::Accepted { length, depth } => answer_of(length, depth),
+    }
+}
