@@ -1,0 +1,117 @@
+//! The smallest input that still shows a difference, as far as simplifying and dropping bytes finds
+//! it.
+
+use crate::cases::leb128;
+
+/// Simplifies and drops bytes while the input differs.
+pub fn shrink(input: &[u8], differs: impl Fn(&[u8]) -> bool) -> Vec<u8> {
+    let mut bytes = input.to_vec();
+    loop {
+        let before = bytes.clone();
+        simplify(&mut bytes, &differs);
+        drop_some(&mut bytes, &differs);
+        if bytes == before {
+            return bytes;
+        }
+    }
+}
+
+/// How many bytes are tried at once: the powers of two, so that whole blocks of text can go, and
+/// three, a first byte with its size.
+fn sizes(length: usize) -> impl Iterator<Item = usize> {
+    let most = length.max(1).ilog2();
+    (0..=most).rev().map(|power| 1 << power).chain([3])
+}
+
+/// Puts a simpler byte for some: 0, or else 1, or else 32.
+fn simplify(bytes: &mut Vec<u8>, differs: &impl Fn(&[u8]) -> bool) {
+    let rank = |byte: u8| {
+        [0, 1, 32]
+            .iter()
+            .position(|&simple| simple == byte)
+            .unwrap_or(3)
+    };
+    for size in sizes(bytes.len()) {
+        for at in 0..bytes.len().saturating_sub(size - 1) {
+            for simple in [0, 1, 32] {
+                if bytes[at..at + size]
+                    .iter()
+                    .all(|&byte| rank(byte) <= rank(simple))
+                {
+                    break;
+                }
+                let mut simpler = bytes.clone();
+                simpler[at..at + size].fill(simple);
+                if differs(&simpler) {
+                    *bytes = simpler;
+                    break;
+                }
+            }
+        }
+    }
+}
+
+fn drop_some(bytes: &mut Vec<u8>, differs: &impl Fn(&[u8]) -> bool) {
+    for size in sizes(bytes.len()) {
+        let mut at = 0;
+        while at + size <= bytes.len() {
+            match without(bytes, at, size)
+                .into_iter()
+                .find(|shorter| differs(shorter))
+            {
+                Some(shorter) => *bytes = shorter,
+                None => at += 1,
+            }
+        }
+    }
+}
+
+/// The bytes without some of them: as they are, with the payload sizes round them made to fit, and
+/// with a count or a text's length before them made to fit too.
+fn without(bytes: &[u8], at: usize, size: usize) -> Vec<Vec<u8>> {
+    let mut plain = bytes.to_vec();
+    plain.drain(at..at + size);
+    let fitted = replace(bytes, at, size, &[]);
+    let mut all = vec![plain, fitted.clone()];
+    let Some(payload) = enclosing(bytes, at, size).last().map(|first| first + 3) else {
+        return all;
+    };
+    for place in payload..at {
+        let (number, length) = match bytes[place..] {
+            [low @ 0..=127, ..] => (low as usize, 1),
+            [low, high @ 1..=127, ..] => ((low & 127) as usize + 128 * high as usize, 2),
+            _ => continue,
+        };
+        let covers = place + length <= at && at + size <= place + length + number;
+        let fewer = match place == payload {
+            true => vec![size, size / 2, 1],
+            false if covers => vec![size],
+            false => continue,
+        };
+        for fewer in fewer.into_iter().filter(|&fewer| fewer <= number) {
+            all.push(replace(&fitted, place, length, &leb128(number - fewer)));
+        }
+    }
+    all
+}
+
+/// The bytes with others in the place of some, and the payload sizes round them made to fit.
+fn replace(bytes: &[u8], at: usize, size: usize, new: &[u8]) -> Vec<u8> {
+    let mut result = bytes.to_vec();
+    for first in enclosing(bytes, at, size) {
+        let payload = u16::from_le_bytes([bytes[first + 1], bytes[first + 2]]);
+        let payload = payload - size as u16 + new.len() as u16;
+        result[first + 1..first + 3].copy_from_slice(&payload.to_le_bytes());
+    }
+    result.splice(at..at + size, new.iter().copied());
+    result
+}
+
+/// The first bytes of what look like shapes whose payloads hold these bytes.
+fn enclosing(bytes: &[u8], at: usize, size: usize) -> impl Iterator<Item = usize> + '_ {
+    (0..at.saturating_sub(2)).filter(move |&first| {
+        let payload = u16::from_le_bytes([bytes[first + 1], bytes[first + 2]]) as usize;
+        let stop = first + 3 + payload;
+        (64..=69).contains(&bytes[first]) && at + size <= stop && stop <= bytes.len()
+    })
+}

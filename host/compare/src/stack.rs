@@ -1,0 +1,132 @@
+//! The peak stack of a call, by painting: in a thread of its own the stack below the caller is
+//! filled with a pattern, the call is made, and the lowest byte that lost the pattern says how far
+//! down the call went. What an empty call takes is subtracted.
+
+use crate::cases::{function, long, nested, record, symbol};
+
+/// What a call may take.
+pub const MOST_FOR_READ: usize = 4096;
+pub const MOST_FOR_ANOTHER: usize = 8192;
+
+/// Painted below the caller: far more than any call may take.
+const PAINTED: usize = 512 * 1024;
+const THREAD: usize = 4 * PAINTED;
+const PATTERN: u64 = 0xA5C3_5A3C_A5C3_5A3C;
+
+/// The peak stack of a call, in bytes.
+pub fn peak(call: impl Fn() + Sync) -> usize {
+    in_a_thread(&call).saturating_sub(in_a_thread(&|| ()))
+}
+
+fn in_a_thread(call: &(dyn Fn() + Sync)) -> usize {
+    std::thread::scope(|scope| {
+        std::thread::Builder::new()
+            .stack_size(THREAD)
+            .spawn_scoped(scope, || {
+                call(); // what is set up at the first call only is not the call's
+                painted(call)
+            })
+            .expect("a thread")
+            .join()
+            .expect("the call ends")
+    })
+}
+
+/// The painting and the search are single instructions, so that they take no stack themselves.
+#[cfg(target_arch = "x86_64")]
+#[inline(never)]
+fn painted(call: &(dyn Fn() + Sync)) -> usize {
+    use std::arch::asm;
+    let top: usize;
+    let words = PAINTED / 8;
+    let left: usize;
+    // Safety: the thread's stack holds the painted bytes, and nothing lives below the frame of a
+    // function that makes calls.
+    unsafe {
+        asm!("mov {}, rsp", out(reg) top, options(nomem, nostack, preserves_flags));
+        let bottom = (top & !7) - PAINTED;
+        asm!("rep stosq", inout("rdi") bottom => _, inout("rcx") words => _, in("rax") PATTERN);
+        call();
+        asm!("repe scasq", inout("rdi") bottom => _, inout("rcx") words => left, in("rax") PATTERN);
+    }
+    8 * (left + 1) // the first word that lost the pattern, and those above it
+}
+
+/// The stored worst inputs for `read`.
+pub fn worst_for_read() -> Vec<(&'static str, Vec<u8>)> {
+    const EMPTY_RECORD: [u8; 4] = [0x42, 0x01, 0x00, 0x00];
+    const CUT_SYMBOL: [u8; 5] = [0x44, 0x02, 0x00, 0x01, 0x05];
+    vec![
+        ("one byte", vec![0x20]),
+        (
+            "Function of 2,040 blanks",
+            function(2040, &[0x00].repeat(2040), &[0x01]),
+        ),
+        (
+            "Record of 1,000 fields",
+            record(1000, &[0x00, 0x01].repeat(1000)),
+        ),
+        (
+            "Record of 1,021 fields",
+            record(1021, &[0x00, 0x01].repeat(1021)),
+        ),
+        (
+            "Function of 500 Arrays",
+            function(500, &[0x40, 0x01, 0x00, 0x00].repeat(500), &[0x20]),
+        ),
+        (
+            "15 levels of 128 blanks",
+            nested(15, &[0x02], |inner| function(128, &[0x00; 128], inner)),
+        ),
+        (
+            "15 Arrays round a blank",
+            nested(15, &[0x03], |inner| long(0x40, inner)),
+        ),
+        (
+            "15 Arrays round an empty Record",
+            nested(15, &EMPTY_RECORD, |inner| long(0x40, inner)),
+        ),
+        (
+            "17 Arrays round an empty Record",
+            nested(17, &EMPTY_RECORD, |inner| long(0x40, inner)),
+        ),
+        (
+            "15 Records with names of four-byte characters",
+            nested(15, &EMPTY_RECORD, |inner| {
+                let mut field = vec![120];
+                field.extend("\u{1F6A1}".repeat(30).bytes());
+                field.extend(inner);
+                record(1, &field)
+            }),
+        ),
+        (
+            "15 Records round 15 texts, the last cut",
+            nested(15, &CUT_SYMBOL, |inner| {
+                let mut field = vec![64];
+                field.extend("\u{1F6A1}".repeat(16).bytes());
+                field.extend(inner);
+                record(1, &field)
+            }),
+        ),
+        ("Symbol of 2,042 letters", symbol(&[b'a'; 2042])),
+        (
+            "Symbol of 510 characters of four bytes",
+            symbol("\u{1F6A1}".repeat(510).as_bytes()),
+        ),
+        (
+            "15 Maps round a cut Symbol",
+            nested(15, &CUT_SYMBOL, |inner| {
+                let mut payload = vec![0x01];
+                payload.extend(inner);
+                long(0x41, &payload)
+            }),
+        ),
+        (
+            "15 Functions round a Symbol with a bad text",
+            nested(15, &symbol(&[0xED, 0xA0, 0x80]), |inner| {
+                function(0, &[], inner)
+            }),
+        ),
+        ("2,049 bytes", vec![0x00; 2049]),
+    ]
+}

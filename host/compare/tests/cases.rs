@@ -1,0 +1,51 @@
+//! The inputs are the same on every machine, and reach every depth and number.
+
+use compare::cases::Inputs;
+use compare::random::Random;
+use compare::read;
+
+#[test]
+fn same_seed_same_inputs() {
+    let inputs = |seed| Inputs::new(seed).take(2000).collect::<Vec<_>>();
+    assert_eq!(inputs(1), inputs(1));
+    assert_ne!(inputs(1), inputs(2));
+}
+
+/// The numbers that splitmix64 gives for this seed wherever it is published.
+#[test]
+fn same_numbers_on_every_machine() {
+    let mut random = Random::new(1_234_567);
+    for number in [
+        6_457_827_717_110_365_317,
+        3_203_168_211_198_807_973,
+        9_817_491_932_198_370_423,
+        4_593_380_528_125_082_431,
+        16_408_922_859_458_223_821,
+    ] {
+        assert_eq!(random.number(), number);
+    }
+}
+
+#[test]
+fn every_number_and_depth() {
+    let mut numbers = [0; 9];
+    let mut depths = [0; 17];
+    for bytes in Inputs::new(1).take(20_000) {
+        let outcome = read::model(&bytes);
+        numbers[outcome.number as usize] += 1;
+        depths[outcome.extra as usize] += 1;
+    }
+    assert!(numbers.iter().all(|&times| times > 0), "{numbers:?}");
+    assert!(depths.iter().all(|&times| times > 0), "{depths:?}");
+}
+
+#[test]
+fn limits_are_among_them() {
+    let lengths: Vec<usize> = Inputs::new(1)
+        .take(20_000)
+        .map(|bytes| bytes.len())
+        .collect();
+    for length in [0, 1, 2, 4, 2047, 2048, 2049] {
+        assert!(lengths.contains(&length), "no input of {length} bytes");
+    }
+}

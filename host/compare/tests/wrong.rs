@@ -1,0 +1,67 @@
+//! Every wrong model is told apart by a small input; the outcomes are those that 01-scope.md gives.
+
+use compare::cases::{function, long, nested, symbol};
+use compare::read::{self, WRONG};
+use compare::shrink::shrink;
+
+#[test]
+fn each_differs_on_a_small_input() {
+    let arrays = |levels, inner: &[u8]| nested(levels, inner, |inner| long(0x40, inner));
+    let mut block = symbol(&[b'a'; 65]);
+    *block.last_mut().unwrap() = 0xFF;
+    // in the order of WRONG: an input, what is right, what the wrong model says
+    let told_apart: [(Vec<u8>, &str, &str); WRONG.len()] = [
+        (vec![0x20], "ok 1 1", "no 1 0"),
+        (vec![0x60], "ok 1 2", "ok 1 1"),
+        (arrays(15, &[0x60]), "no 7 45", "ok 46 17"),
+        (arrays(16, &[0x00]), "no 7 48", "ok 49 17"),
+        (symbol(&[b'a'; 2043]), "no 8 2048", "ok 2049 1"),
+        (arrays(16, &[0xFF]), "no 2 48", "no 7 48"),
+        (vec![0xA0], "no 2 0", "ok 1 1"),
+        (vec![0x7E], "no 2 0", "ok 1 2"),
+        (vec![0x40, 1, 0, 0x20], "no 6 0", "ok 4 2"),
+        (vec![0x41, 2, 0, 0x20, 0x24], "no 6 0", "ok 5 2"),
+        (vec![0x45, 2, 0, 0x1F, 0], "no 6 0", "ok 5 1"),
+        (vec![0x40, 2, 0, 0x20, 0x20], "no 3 0", "no 6 0"),
+        (vec![0x40, 2, 0, 0x00, 0x20], "no 3 0", "ok 5 2"),
+        (vec![0x20, 0x20], "no 3 1", "no 3 0"),
+        (vec![0x43, 2, 0, 0, 0x20], "ok 5 2", "no 3 0"),
+        (vec![0x41, 2, 0, 0x60, 0x20], "ok 5 3", "ok 5 2"),
+        (vec![0x43, 2, 0, 0, 0x60], "ok 5 3", "ok 5 1"),
+        (vec![0x44, 0, 0], "no 4 3", "no 1 3"),
+        (vec![0x44, 3, 0, 0x81, 0, 0], "no 4 3", "ok 6 1"),
+        (vec![0x44, 3, 0, 0x80, 0x80, 0], "no 4 3", "ok 6 1"),
+        (symbol(&[0xFF]), "no 5 5", "no 5 4"),
+        (vec![0x44, 2, 0, 1, 5], "no 1 4", "no 1 5"),
+        (symbol(&[0xED, 0xA0, 0x80]), "no 5 5", "ok 8 1"),
+        (symbol(&[0xE0, 0x80, 0x80]), "no 5 5", "ok 8 1"),
+        (symbol(&[0xF4, 0x90, 0x80, 0x80]), "no 5 5", "ok 9 1"),
+        (block, "no 5 5", "ok 70 1"),
+    ];
+    for ((input, right, wrong), (fault, model)) in told_apart.iter().zip(WRONG) {
+        assert_eq!(read::model(input).to_string(), *right, "{fault}");
+        assert_eq!(read::fast::<0>(input).to_string(), *right, "{fault}");
+        assert_eq!(model(input).to_string(), *wrong, "{fault}");
+    }
+}
+
+#[test]
+fn a_difference_is_made_small() {
+    let smallest = |k: usize, input: &[u8]| {
+        let (_, wrong) = WRONG[k - 1];
+        let differs = |bytes: &[u8]| wrong(bytes) != read::model(bytes);
+        assert!(differs(input));
+        shrink(input, differs)
+    };
+    // a long Array of Int somewhere in a wide Function
+    let mut parameters = vec![0x05; 1000];
+    parameters.extend([0x40, 1, 0, 0x20]);
+    parameters.extend([0x60; 500]);
+    let input = function(1501, &parameters, &[0x20]);
+    assert_eq!(smallest(9, &input), [0x40, 1, 0, 0x20]);
+    // the last byte of a block of 64, deep down
+    let mut block = symbol(&[b'b'; 200]);
+    block[6 + 64] = 0xFF;
+    let input = nested(9, &block, |inner| long(0x40, inner));
+    assert_eq!(smallest(26, &input).len(), 70);
+}

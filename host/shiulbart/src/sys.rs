@@ -1,0 +1,24 @@
+//! The archive's calls as `include/shiulbart.h` declares them, each behind a function that keeps
+//! the header's rules for every argument that safe Rust can give it. All `unsafe` of this crate
+//! stands here.
+
+/// What a call answers: `shiulbart_answer` of the header.
+#[repr(C)]
+#[derive(Clone, Copy)]
+pub(crate) struct Answer {
+    pub(crate) number: u32,
+    pub(crate) place: u32,
+    pub(crate) length: u32,
+    pub(crate) extra: u32,
+}
+
+extern "C" {
+    fn shiulbart_read(bytes: *const u8, length: usize) -> Answer;
+}
+
+#[inline]
+pub(crate) fn read(bytes: &[u8]) -> Answer {
+    // SAFETY: a slice's pointer is never null, and is valid for reads of its length for as long as
+    // it is borrowed; nothing writes to it meanwhile. The call keeps no pointer.
+    unsafe { shiulbart_read(bytes.as_ptr(), bytes.len()) }
+}

@@ -1,0 +1,103 @@
+/*
+ * Shiulbart: the board's calls, for C99 and C++.
+ *
+ * The calls are the verified code itself, in libboard.a, for Linux on x86-64. A shape is what a
+ * message between two ropeway stations looks like; its encoding takes 1 to 2,048 bytes and has at
+ * most 16 levels.
+ *
+ * What holds for every call
+ *
+ * - It answers four numbers. If `number` is 0 it is an answer, and `place` is 0. Otherwise it is a
+ *   refusal: `number` says what is wrong (enum shiulbart_refusal), `place` says where, and
+ *   `length` and `extra` are 0. A field that a call does not use is 0.
+ * - Bytes, nodes, names and entries are counted from 0.
+ * - Inputs (pointers to const) are only read. A call that is lent a buffer for its answer writes
+ *   the first `length` bytes of it and no other; a refusal writes nothing.
+ * - It keeps no pointer and no state, takes no memory but the stack, and may be called from several
+ *   threads at once.
+ *
+ * What the host owes every call
+ *
+ * - Each pointer is valid for the length beside it: so many bytes may be read there and, in a
+ *   buffer lent for an answer, written.
+ * - A buffer lent for an answer overlaps nothing else that is lent to the same call.
+ * - A pointer is null only if its length is 0.
+ * - No other thread writes to what is lent, or reads a buffer lent for an answer, until the call
+ *   has returned.
+ *
+ * Where these rules are broken nothing is promised. Where they are kept, every input has its answer
+ * or its refusal: none crashes a call.
+ */
+#ifndef SHIULBART_H
+#define SHIULBART_H
+
+#include <stddef.h>
+#include <stdint.h>
+
+#ifdef __cplusplus
+extern "C" {
+#endif
+
+/* What a call answers; see above. */
+typedef struct shiulbart_answer {
+    uint32_t number;
+    uint32_t place;
+    uint32_t length;
+    uint32_t extra;
+} shiulbart_answer;
+
+/* The numbers that a refusal carries, and what its place is. */
+enum shiulbart_refusal {
+    /* cut short: the place of a missing shape; the first byte of a shape that does not fit; the
+       place of the length of a text that does not fit */
+    SHIULBART_CUT_SHORT = 1,
+    /* first byte not assigned: that byte */
+    SHIULBART_NOT_ASSIGNED = 2,
+    /* size does not match: the shape's first byte; at the end, the first byte left over */
+    SHIULBART_SIZE_WRONG = 3,
+    /* LEB128 unfinished, over two bytes, or not shortest: its first byte; if missing, where it
+       should start */
+    SHIULBART_LEB128_WRONG = 4,
+    /* text is not UTF-8: the first byte of the text */
+    SHIULBART_NOT_UTF8 = 5,
+    /* long form where a short one exists: the shape's first byte */
+    SHIULBART_LONG_FORM = 6,
+    /* deeper than 16: the shape's first byte */
+    SHIULBART_TOO_DEEP = 7,
+    /* input over 2,048 bytes: 2,048 */
+    SHIULBART_INPUT_TOO_LONG = 8,
+    /* table section broken: the place of its count; for leftover bytes, the first */
+    SHIULBART_SECTION_BROKEN = 9,
+    /* table node broken: the node */
+    SHIULBART_NODE_BROKEN = 10,
+    /* table name broken: the name's entry */
+    SHIULBART_NAME_BROKEN = 11,
+    /* lent buffer shorter than the answer: the length needed */
+    SHIULBART_BUFFER_SHORT = 12,
+    /* sheet broken (when joining: the first): the entry, or the byte where a count or what is left
+       over starts */
+    SHIULBART_SHEET_BROKEN = 13,
+    /* second sheet broken: as 13 */
+    SHIULBART_SECOND_BROKEN = 14,
+    /* made shape deeper than 16: 0; when joining, the blank's number */
+    SHIULBART_MADE_TOO_DEEP = 15,
+    /* made shape over 2,048 bytes: as 15 */
+    SHIULBART_MADE_TOO_LONG = 16,
+    /* joined sheet over 32 entries or 16,384 bytes: how many there would be */
+    SHIULBART_JOINED_TOO_LARGE = 17,
+    /* no such child or name: how many there are */
+    SHIULBART_NO_SUCH_PART = 18
+};
+
+/*
+ * Judges an encoding. If the bytes are exactly one shape, `length` is how many they are and `extra`
+ * is the shape's depth, 1 to 16. Otherwise refused with 1 to 8: 8 comes first, then the bytes are
+ * read from the left and the first fault met is the answer.
+ */
+shiulbart_answer shiulbart_read(const uint8_t *bytes, size_t length);
+
+#ifdef __cplusplus
+}
+#endif
+
+#endif

@@ -1,0 +1,105 @@
+#!/usr/bin/env bash
+# The Rust side: links the archive that was just proved, runs the Rust tests and the C header's
+# program, and then compares the proved calls with the independent model and measures their stack.
+# Takes the archive from the folder SHIULBART_ARCHIVE_DIR instead, if that is set.
+set -u
+exec </dev/null
+top=$(dirname "$(dirname "$(readlink -f "${BASH_SOURCE[0]}")")")
+passed=0 failed=0
+
+finish() {
+    echo "$passed passed, $failed failed"
+    [ "$failed" -eq 0 ]
+    exit
+}
+
+wrong() { # WHAT
+    printf 'FAILED %s\n' "$1"
+    failed=$((failed + 1))
+}
+
+scratch=$(mktemp -d) || { wrong 'there is no temporary folder'; finish; }
+trap 'rm -rf "$scratch"' EXIT
+
+# Runs what must work for the rest to make sense.
+need() { # COMMAND...
+    "$@" 2>&1 || { wrong "$*: exit status $?"; finish; }
+}
+
+# Adds up the counts of a run whose output is in the log. A run that fails or tries nothing has a
+# failure, whatever it counts.
+add() { # WHAT STATUS PASSED FAILED
+    passed=$((passed + $3)) failed=$((failed + $4))
+    if [ "$2" -ne 0 ]; then
+        if [ "$4" -gt 0 ]; then echo "FAILED $1: exit status $2"; else wrong "$1: exit status $2"; fi
+    elif [ "$4" -eq 0 ] && [ "$3" -eq 0 ]; then
+        wrong "$1: it tried nothing"
+    fi
+}
+
+# A program whose last line is 'N passed, M failed'.
+counted() { # COMMAND...
+    local status
+    "$@" 2>&1 | tee "$scratch/log"
+    status=${PIPESTATUS[0]}
+    if [[ $(tail -n 1 "$scratch/log") =~ ^([0-9]+)\ passed,\ ([0-9]+)\ failed$ ]]; then
+        add "$*" "$status" $((10#${BASH_REMATCH[1]})) $((10#${BASH_REMATCH[2]}))
+    else
+        wrong "$*: exit status $status, and its last line is not 'N passed, M failed'"
+    fi
+}
+
+# Rust's tests: every test program has its line 'test result: ok. N passed; M failed; ..'.
+rust_tests() { # WORDS...
+    local status good=0 bad=0 line
+    cargo test --release --offline --locked --no-fail-fast "$@" 2>&1 | tee "$scratch/log"
+    status=${PIPESTATUS[0]}
+    while read -r line; do
+        if [[ $line =~ ^test\ result:\ [A-Za-z]+\.\ ([0-9]+)\ passed\;\ ([0-9]+)\ failed\; ]]; then
+            good=$((good + 10#${BASH_REMATCH[1]})) bad=$((bad + 10#${BASH_REMATCH[2]}))
+        fi
+    done <"$scratch/log"
+    add "cargo test $*" "$status" "$good" "$bad"
+}
+
+if [ -n "${SHIULBART_ARCHIVE_DIR-}" ]; then
+    SHIULBART_ARCHIVE_DIR=$(readlink -m "$SHIULBART_ARCHIVE_DIR")
+    export SHIULBART_ARCHIVE_DIR
+fi
+cd "$top" || { wrong "there is no folder $top"; finish; }
+need host/setup
+. host/env.sh
+[ -n "${SHIULBART_ARCHIVE_DIR-}" ] || need rt staticlib board
+archive=${SHIULBART_ARCHIVE_DIR:-$top/target/staticlib}/libboard.a
+[ -f "$archive" ] || { wrong "there is no $archive"; finish; }
+
+cd host || { wrong "there is no folder $top/host"; finish; }
+need cargo build --release --offline --locked --workspace
+rust_tests --workspace --tests
+if [ "$(uname -m)" = aarch64 ]; then
+    # no documentation tests: they would need a rustdoc that builds for x86-64
+    compiler=$CARGO_TARGET_X86_64_UNKNOWN_LINUX_GNU_LINKER
+    runner=$CARGO_TARGET_X86_64_UNKNOWN_LINUX_GNU_RUNNER
+else
+    compiler=cc runner=
+    rust_tests -p shiulbart --doc
+fi
+
+# the header, from C and, where there is a compiler for it, as C++
+strict=(-Wall -Wextra -Werror -pedantic -I "$top/include")
+if "$compiler" -std=c99 "${strict[@]}" "$top/tests/header.c" "$archive" -o "$scratch/header" 2>&1; then
+    counted $runner "$scratch/header"
+else
+    wrong "tests/header.c does not compile"
+fi
+if command -v c++ >/dev/null; then
+    if c++ -std=c++11 "${strict[@]}" -fsyntax-only -x c++ "$top/include/shiulbart.h" 2>&1; then
+        passed=$((passed + 1))
+    else
+        wrong "include/shiulbart.h does not compile as C++"
+    fi
+fi
+
+counted cargo run --release --offline --locked -q -p compare --bin compare -- --gate
+counted cargo run --release --offline --locked -q -p compare --bin stack
+finish
