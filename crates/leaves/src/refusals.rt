@@ -29,3 +29,6 @@ pub const TOO_DEEP: usize = 7;
 
 // An input is longer than its limit.
 pub const INPUT_TOO_LONG: usize = 8;
+
+// There is no such child or name.
+pub const NO_SUCH_PART: usize = 18;

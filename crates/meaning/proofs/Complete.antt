@@ -35,7 +35,7 @@ unfolding next
 reads-last m f q a h e x = rw (h e x)
 
 -- A count of two bytes at most is read back.
-count-reads : (n : ℕ) → n < 16384 → Reads readCount (leb128 n) n
+pub count-reads : (n : ℕ) → n < 16384 → Reads readCount (leb128 n) n
 unfolding leb128 readCount secondByte
 count-reads n h e x =
     rule (λ (q : List ℕ). readCount e (q ++ x) ≡ got n x) (ltb n 128) _ _ (λ p. rw p) λ p.
@@ -46,7 +46,7 @@ pub two-value : (n : ℕ) → ofTwo (n % 256) (n / 256) ≡ n
 two-value n = omega arith
 
 -- The byte of a primitive says that primitive.
-class-prim : (p : Primitive) → classOf (primByte (code p)) ≡ whole (prim p)
+pub class-prim : (p : Primitive) → classOf (primByte (code p)) ≡ whole (prim p)
 unfolding classOf code primOf
 class-prim int = refl
 class-prim float = refl
@@ -55,7 +55,7 @@ class-prim str = refl
 class-prim bytes = refl
 
 -- That of an Array of a primitive says that Array.
-class-array : (p : Primitive) → classOf (arrayByte (code p)) ≡ packed (arrayOf (prim p))
+pub class-array : (p : Primitive) → classOf (arrayByte (code p)) ≡ packed (arrayOf (prim p))
 unfolding classOf code primOf
 class-array int = refl
 class-array float = refl
@@ -82,7 +82,7 @@ prim-code str = refl
 prim-code bytes = refl
 
 -- The byte of a Map of two primitives says that Map.
-class-map : (p q : Primitive) → classOf (mapByte (code p) (code q)) ≡ packed (mapOf (prim p) (prim q))
+pub class-map : (p q : Primitive) → classOf (mapByte (code p) (code q)) ≡ packed (mapOf (prim p) (prim q))
 unfolding classOf
 class-map p q = go (code p) (code q) (code-small p) (code-small q) ∙ rw (prim-code p, prim-code q)
   where
@@ -105,12 +105,12 @@ class-map p q = go (code p) (code q) (code-small p) (code-small q) ∙ rw (prim-
         (ap₂ (λ (i j : ℕ). packed (mapOf (prim (primOf i)) (prim (primOf j)))) (omega arith) (omega arith))
 
 -- That of a short blank says that blank.
-class-blank : (n : ℕ) → n < shortBlanks → classOf n ≡ whole (blank n)
+pub class-blank : (n : ℕ) → n < shortBlanks → classOf n ≡ whole (blank n)
 unfolding classOf
 class-blank n h = rw (lt-ltb n shortBlanks h)
 
 -- The first byte of a shape with a payload says its kind.
-class-kind : (k : Kind) → classOf (kindByte k) ≡ long k
+pub class-kind : (k : Kind) → classOf (kindByte k) ≡ long k
 unfolding classOf
 class-kind array = refl
 class-kind map = refl

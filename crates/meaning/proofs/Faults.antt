@@ -6,7 +6,7 @@ use mathlib.Core.Path.{_≡_, sym, ap₂}
 use mathlib.Core.List.{List, [], _∷_}
 use native.Mathlib.Omega.{arith}
 use lib.Dec.{ltb, leb, eqb}
-use lib.ListN.{length, take, drop}
+use lib.ListN.{length, take}
 use Rattle.meaning.specs.Limits.{maxBytes, maxLevels}
 use Rattle.meaning.specs.Refusals.{inputTooLong}
 use Rattle.meaning.specs.Numbers.{ofTwo}

@@ -6,3 +6,5 @@ pub mod Sound
 pub mod Written
 pub mod Laws
 pub mod Faults
+pub mod Heads
+pub mod Lists

@@ -8,3 +8,4 @@ pub mod FirstByte
 pub mod Encode
 pub mod Within
 pub mod Reading
+pub mod Parts

@@ -24,6 +24,8 @@ pub const VARIABLE: u8 = 69;
 
 pub const PACKED: u8 = 96;
 
+pub const PACKED_MAPS: u8 = 101;
+
 pub const PAST_PACKED: u8 = 126;
 
 // What a payload holds.

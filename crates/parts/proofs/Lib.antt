@@ -1,0 +1,5 @@
+pub mod Turns
+pub mod Places
+pub mod Listed
+pub mod Whole
+pub mod Judged

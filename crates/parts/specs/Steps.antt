@@ -1,0 +1,113 @@
+-- NOT TO BE BELIEVED: proved to be what Said.antt says, of every accepted encoding (proofs/Whole.antt). What the private functions do, by places
+-- in the input s. They stay inside s whatever its bytes are, so they ask nothing of their callers.
+use Prim.Native.Nat.{ℕ, zero, suc, _+_, _-_, _/_, _%_}
+use mathlib.Core.List.{List}
+use lib.ListN.{length, getD}
+use lib.Dec.{ltb, leb, eqb}
+use Rattle.meaning.specs.Rules.{_⇒_∣_}
+use Rattle.meaning.specs.Refusals.{noSuchPart}
+use Rattle.meaning.specs.FirstByte.{arrayByte, mapByte, classOf}
+use Rattle.leaves.specs.Leb.{lebAt}
+use Rattle.leaves.specs.declared.Leb.{Leb}
+use Rattle.leaves.specs.declared.Leb.the-variants.{Number, Fault}
+use Rattle.reader.specs.First.{firstSaid}
+use Rattle.reader.specs.Walk.{named, shaped, sizeAt, openingAt}
+use Rattle.reader.specs.declared.first.Kind.{Kind}
+use Rattle.reader.specs.declared.first.First.{First}
+use Rattle.reader.specs.declared.first.First.the-variants.{Unassigned, Short, Long}
+use Rattle.reader.specs.declared.payload.Opening.{Opening}
+use Rattle.reader.specs.declared.payload.Opening.the-variants.{Items, Closed}
+use Rattle.parts.specs.declared.FoundChild.{FoundChild}
+use Rattle.parts.specs.declared.FoundChild.the-variants as child
+use Rattle.parts.specs.declared.FoundName.{FoundName}
+use Rattle.parts.specs.declared.FoundName.the-variants as name
+
+-- the place after the shape at a place, by its head
+unfoldable pub pastLong : List ℕ → ℕ → ℕ
+pastLong s at =
+    ltb (length s - at) 3 ⇒ at ∣ λ _.
+    ltb (length s - at - 3) (sizeAt s (at + 1)) ⇒ at ∣ λ _.
+    at + 3 + sizeAt s (at + 1)
+
+abbrev pub pastFirst : List ℕ → ℕ → First → ℕ
+pastFirst s at Unassigned = at + 1
+pastFirst s at (Short levels) = at + 1
+pastFirst s at (Long kind) = pastLong s at
+
+unfoldable pub pastShape : List ℕ → ℕ → ℕ
+pastShape s at =
+    leb (length s) at ⇒ at ∣ λ _.
+    pastFirst s at (firstSaid (classOf (getD s at 0)))
+
+-- the place after the text at a place, and after an item's name, where it has one
+abbrev pub pastLeb : List ℕ → ℕ → Leb → ℕ
+pastLeb s at (Fault number) = at
+pastLeb s at (Number size start) = ltb (length s - start) size ⇒ at ∣ λ _. start + size
+
+unfoldable pub pastText : List ℕ → ℕ → ℕ
+pastText s at = pastLeb s at (lebAt s (length s) at)
+
+unfoldable pub pastName : List ℕ → ℕ → Kind → ℕ
+pastName s at kind = named kind ⇒ pastText s at ∣ λ _. at
+
+-- the place after an item, and after k of them
+unfoldable pub pastItem : List ℕ → ℕ → Kind → ℕ
+pastItem s at kind = shaped kind ⇒ pastShape s (pastName s at kind) ∣ λ _. pastName s at kind
+
+unfoldable pub pastItems : List ℕ → Kind → ℕ → ℕ → ℕ
+pastItems s kind zero at = at
+pastItems s kind (suc k) at = pastItems s kind k (pastItem s at kind)
+
+-- the child of the item at a place, and its name
+abbrev pub childFrom : List ℕ → ℕ → FoundChild
+childFrom s start = child.Part start (pastShape s start - start)
+
+abbrev pub nameBy : Leb → FoundName
+nameBy (Fault number) = name.Refused noSuchPart 0
+nameBy (Number size start) = name.Text start size
+
+unfoldable pub nameFrom : List ℕ → ℕ → FoundName
+nameFrom s at = nameBy (lebAt s (length s) at)
+
+-- child k and name k of a shape with a payload
+unfoldable pub childIn : List ℕ → Kind → ℕ → Opening → FoundChild
+childIn s kind k (Closed number place) = child.Refused noSuchPart 0
+childIn s kind k (Items stop from count) =
+    shaped kind ⇒ (ltb k count ⇒ childFrom s (pastName s (pastItems s kind k from) kind) ∣ λ _. child.Refused noSuchPart count) ∣ λ _.
+    child.Refused noSuchPart 0
+
+unfoldable pub nameIn : List ℕ → Kind → ℕ → Opening → FoundName
+nameIn s kind k (Closed number place) = name.Refused noSuchPart 0
+nameIn s kind k (Items stop from count) =
+    named kind ⇒ (ltb k count ⇒ nameFrom s (pastItems s kind k from) ∣ λ _. name.Refused noSuchPart count) ∣ λ _.
+    name.Refused noSuchPart 0
+
+-- child k of a packed byte
+unfoldable pub packedChild : ℕ → ℕ → FoundChild
+packedChild b k =
+    ltb b (arrayByte 0) ⇒ child.Refused noSuchPart 0 ∣ λ _.
+    ltb b (mapByte 0 0) ⇒ (eqb k 0 ⇒ child.Primitive (b - arrayByte 0) ∣ λ _. child.Refused noSuchPart 1) ∣ λ _.
+    eqb k 0 ⇒ child.Primitive ((b - mapByte 0 0) / 5) ∣ λ _.
+    eqb k 1 ⇒ child.Primitive ((b - mapByte 0 0) % 5) ∣ λ _.
+    child.Refused noSuchPart 2
+
+-- by the first byte
+unfoldable pub childBy : List ℕ → ℕ → First → FoundChild
+childBy s k Unassigned = child.Refused noSuchPart 0
+childBy s k (Short levels) = packedChild (getD s 0 0) k
+childBy s k (Long kind) = childIn s kind k (openingAt s (length s) 0 kind)
+
+unfoldable pub nameWith : List ℕ → ℕ → First → FoundName
+nameWith s k Unassigned = name.Refused noSuchPart 0
+nameWith s k (Short levels) = name.Refused noSuchPart 0
+nameWith s k (Long kind) = nameIn s kind k (openingAt s (length s) 0 kind)
+
+unfoldable pub childSteps : List ℕ → ℕ → FoundChild
+childSteps s k =
+    leb (length s) 0 ⇒ child.Refused noSuchPart 0 ∣ λ _.
+    childBy s k (firstSaid (classOf (getD s 0 0)))
+
+unfoldable pub nameSteps : List ℕ → ℕ → FoundName
+nameSteps s k =
+    leb (length s) 0 ⇒ name.Refused noSuchPart 0 ∣ λ _.
+    nameWith s k (firstSaid (classOf (getD s 0 0)))
