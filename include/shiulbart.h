@@ -7,9 +7,10 @@
  *
  * What holds for every call
  *
- * - It answers four numbers. If `number` is 0 it is an answer, and `place` is 0. Otherwise it is a
- *   refusal: `number` says what is wrong (enum shiulbart_refusal), `place` says where, and
- *   `length` and `extra` are 0. A field that a call does not use is 0.
+ * - It answers four numbers. If `number` is 0 it is an answer, and `place` is 0; only in
+ *   shiulbart_child and shiulbart_name is it a part of the answer. Otherwise it is a refusal:
+ *   `number` says what is wrong (enum shiulbart_refusal), `place` says where, and `length` and
+ *   `extra` are 0. A field that a call does not use is 0.
  * - Bytes, nodes, names and entries are counted from 0.
  * - Inputs (pointers to const) are only read. A call that is lent a buffer for its answer writes
  *   the first `length` bytes of it and no other; a refusal writes nothing.
@@ -95,6 +96,22 @@ enum shiulbart_refusal {
  * read from the left and the first fault met is the answer.
  */
 shiulbart_answer shiulbart_read(const uint8_t *bytes, size_t length);
+
+/*
+ * Child k of an encoded shape, counted from 0: the `length` bytes from `place` on, with `extra` 0.
+ * If the shape is packed (one byte, 96 to 125) its children have no bytes: `place` is then the
+ * primitive's number (0 Int, 1 Float, 2 Bool, 3 Str, 4 Bytes), `length` is 0 and `extra` is 1. An
+ * Array has 1 child, a Map 2, a Record its fields, a Function its parameters and then its return;
+ * all others have none. Refused with 1 to 8 as by shiulbart_read, whatever k is, and then with 18.
+ */
+shiulbart_answer shiulbart_child(const uint8_t *bytes, size_t length, uint64_t k);
+
+/*
+ * Name k of an encoded shape, counted from 0: the `length` bytes from `place` on. They are UTF-8 and
+ * may be none. A Record has its fields' names and a Symbol its texts; all others have none. Refused
+ * with 1 to 8 as by shiulbart_read, whatever k is, and then with 18.
+ */
+shiulbart_answer shiulbart_name(const uint8_t *bytes, size_t length, uint64_t k);
 
 #ifdef __cplusplus
 }

@@ -1,5 +1,5 @@
-/* Calls the archive from C through include/shiulbart.h: M1 to M11 of the bench card.
-   tests/host.sh compiles, links and runs it. Its last line is 'N passed, M failed'. */
+/* Calls the archive from C through include/shiulbart.h: M1 to M11 of the bench card, and children
+   and names. tests/host.sh compiles, links and runs it. Its last line is 'N passed, M failed'. */
 #include "shiulbart.h"
 
 #include <stdio.h>
@@ -9,9 +9,8 @@ typedef char four_numbers[sizeof(shiulbart_answer) == 16 ? 1 : -1];
 
 static unsigned passed, failed;
 
-static void expect(const char *name, const uint8_t *bytes, size_t length, shiulbart_answer answer)
+static void expect(const char *name, shiulbart_answer came, shiulbart_answer answer)
 {
-    shiulbart_answer came = shiulbart_read(bytes, length);
     if (came.number == answer.number && came.place == answer.place && came.length == answer.length
         && came.extra == answer.extra) {
         passed++;
@@ -24,20 +23,31 @@ static void expect(const char *name, const uint8_t *bytes, size_t length, shiulb
         (unsigned long)came.length, (unsigned long)came.extra);
 }
 
-static void accepted(const char *name, const uint8_t *bytes, size_t length, uint32_t depth)
+static shiulbart_answer answered(uint32_t place, uint32_t length, uint32_t extra)
 {
     shiulbart_answer answer = {0, 0, 0, 0};
-    answer.length = (uint32_t)length;
-    answer.extra = depth;
-    expect(name, bytes, length, answer);
+    answer.place = place;
+    answer.length = length;
+    answer.extra = extra;
+    return answer;
 }
 
-static void refused(const char *name, const uint8_t *bytes, size_t length, uint32_t number, uint32_t place)
+static shiulbart_answer refusal(uint32_t number, uint32_t place)
 {
     shiulbart_answer answer = {0, 0, 0, 0};
     answer.number = number;
     answer.place = place;
-    expect(name, bytes, length, answer);
+    return answer;
+}
+
+static void accepted(const char *name, const uint8_t *bytes, size_t length, uint32_t depth)
+{
+    expect(name, shiulbart_read(bytes, length), answered(0, (uint32_t)length, depth));
+}
+
+static void refused(const char *name, const uint8_t *bytes, size_t length, uint32_t number, uint32_t place)
+{
+    expect(name, shiulbart_read(bytes, length), refusal(number, place));
 }
 
 int main(void)
@@ -52,7 +62,10 @@ int main(void)
     static const uint8_t m9[] = {0x43, 0x02, 0x00, 0x00, 0x20};
     static const uint8_t m10[] = {0x44, 0x03, 0x00, 0x81, 0x00, 0x00};
     static const uint8_t m11[] = {0xA0};
+    static const uint8_t symbol[] = {0x44, 0x06, 0x00, 0x03, 0x00, 0x02, 0xC3, 0xA9, 0x00};
     static const uint8_t too_long[2049] = {0};
+    const uint64_t two_to_32 = (uint64_t)1 << 32;
+    const uint32_t none = SHIULBART_NO_SUCH_PART;
 
     accepted("M1", m1, sizeof m1, 1);
     accepted("M2", m2, sizeof m2, 2);
@@ -67,6 +80,36 @@ int main(void)
     refused("M10", m10, sizeof m10, SHIULBART_LEB128_WRONG, 3);
     refused("M11", m11, sizeof m11, SHIULBART_NOT_ASSIGNED, 0);
     refused("2,049 bytes", too_long, sizeof too_long, SHIULBART_INPUT_TOO_LONG, 2048);
+
+    expect("M4, child 0", shiulbart_child(m4, sizeof m4, 0), answered(6, 1, 0));
+    expect("M4, child 1", shiulbart_child(m4, sizeof m4, 1), answered(9, 1, 0));
+    expect("M4, child 2", shiulbart_child(m4, sizeof m4, 2), refusal(none, 2));
+    expect("M4, child 2^32", shiulbart_child(m4, sizeof m4, two_to_32), refusal(none, 2));
+    expect("M4, the largest child", shiulbart_child(m4, sizeof m4, UINT64_MAX), refusal(none, 2));
+    expect("M2, child 0", shiulbart_child(m2, sizeof m2, 0), answered(3, 0, 1));
+    expect("M2, child 1", shiulbart_child(m2, sizeof m2, 1), answered(2, 0, 1));
+    expect("M2, child 2", shiulbart_child(m2, sizeof m2, 2), refusal(none, 2));
+    expect("M9, child 0", shiulbart_child(m9, sizeof m9, 0), answered(4, 1, 0));
+    expect("M1, child 0", shiulbart_child(m1, sizeof m1, 0), refusal(none, 0));
+    expect("a Symbol, child 0", shiulbart_child(symbol, sizeof symbol, 0), refusal(none, 0));
+    expect("M3, child 0", shiulbart_child(m3, sizeof m3, 0), refusal(SHIULBART_LONG_FORM, 0));
+    expect("M7, child 0, a null pointer", shiulbart_child(NULL, 0, 0), refusal(SHIULBART_CUT_SHORT, 0));
+    expect("2,049 bytes, child 0", shiulbart_child(too_long, sizeof too_long, 0),
+        refusal(SHIULBART_INPUT_TOO_LONG, 2048));
+
+    expect("M4, name 0", shiulbart_name(m4, sizeof m4, 0), answered(5, 1, 0));
+    expect("M4, name 1", shiulbart_name(m4, sizeof m4, 1), answered(8, 1, 0));
+    expect("M4, name 2", shiulbart_name(m4, sizeof m4, 2), refusal(none, 2));
+    expect("M4, name 2^32", shiulbart_name(m4, sizeof m4, two_to_32), refusal(none, 2));
+    expect("M4, the largest name", shiulbart_name(m4, sizeof m4, UINT64_MAX), refusal(none, 2));
+    expect("a Symbol, name 0", shiulbart_name(symbol, sizeof symbol, 0), answered(5, 0, 0));
+    expect("a Symbol, name 1", shiulbart_name(symbol, sizeof symbol, 1), answered(6, 2, 0));
+    expect("a Symbol, name 2", shiulbart_name(symbol, sizeof symbol, 2), answered(9, 0, 0));
+    expect("a Symbol, name 3", shiulbart_name(symbol, sizeof symbol, 3), refusal(none, 3));
+    expect("M2, name 0", shiulbart_name(m2, sizeof m2, 0), refusal(none, 0));
+    expect("M9, name 0", shiulbart_name(m9, sizeof m9, 0), refusal(none, 0));
+    expect("M10, name 0", shiulbart_name(m10, sizeof m10, 0), refusal(SHIULBART_LEB128_WRONG, 3));
+    expect("M7, name 0, a null pointer", shiulbart_name(NULL, 0, 0), refusal(SHIULBART_CUT_SHORT, 0));
 
     printf("%u passed, %u failed\n", passed, failed);
     return failed > 0;

@@ -1,30 +1,95 @@
--- What the reader says fits in 32 bits a number, and is what its exported call says.
+-- What the calls below say fits in 32 bits a number, and is what the exported calls say.
+--     exported           of the reader
+--     exported-child     of a child
+--     exported-name      of a name
 -- Assumes nothing.
-use Prim.Native.Nat.{ℕ, _<_}
+use Prim.Native.Nat.{ℕ, _≤_, _<_}
 use mathlib.Core.Path.{_≡_, refl}
 use mathlib.Core.List.{List}
 use native.Mathlib.Omega.{arith}
-use lib.ListN.{getD}
+use lib.Dec.{ltb}
+use lib.ListN.{length, getD}
+use borrow.Author.Tests.{ltb-true}
 use Rattle.meaning.specs.Shape.{Shape}
-use Rattle.meaning.specs.Reading.{Reading, got, bad, reading}
+use Rattle.meaning.specs.Within.{Within}
+use Rattle.meaning.specs.Reading.{Reading, got, bad, hasShort, reading}
+use Rattle.meaning.specs.Parts.{children, childOf, names}
+use Rattle.meaning.proofs.Rules.{rule, both}
 use Rattle.meaning.proofs.Window.{bytes-by-index}
 use Rattle.meaning.proofs.Laws.{encode-reading}
 use Rattle.meaning.proofs.Faults.{refusal-small}
+use Rattle.meaning.proofs.Parts.{children-few, names-few, child-inside, packed-number, name-inside}
 use Rattle.reader.specs.declared.Judgement.{Judgement}
 use Rattle.reader.specs.declared.Judgement.the-variants.{Accepted, Refused}
 use Rattle.reader.specs.Said.{said}
-use Rattle.board.specs.Answers.{answered, refused, readAnswer}
+use Rattle.parts.specs.declared.FoundChild.{FoundChild}
+use Rattle.parts.specs.declared.FoundChild.the-variants as child
+use Rattle.parts.specs.declared.FoundName.{FoundName}
+use Rattle.parts.specs.declared.FoundName.the-variants as name
+use Rattle.parts.specs.Said.{toldChild, childSaid, nameSaid}
+use Rattle.board.specs.declared.Answer.{Answer}
+use Rattle.board.specs.Answers.{answered, refused, readAnswer, childAnswered, childAnswer, nameAnswer}
 
--- what the reader says of an input, as its exported call puts it
-abbrev pub Exported : List ℕ → Judgement → Type 0
-Exported s (Accepted length depth) = (length < 4294967296) × (depth < 4294967296) × (answered length depth ≡ readAnswer (reading s))
-Exported s (Refused number place) = (number < 4294967296) × (place < 4294967296) × (refused number place ≡ readAnswer (reading s))
+-- an answer that fits, and is the one to be given
+pub record Given (a b : Answer) : Type 0 where
+  pub number : a .number < 4294967296
+  pub place : a .place < 4294967296
+  pub length : a .length < 4294967296
+  pub extra : a .extra < 4294967296
+  pub is : a ≡ b
 
-pub exported : (s : List ℕ) → ((i : ℕ) → getD s i 0 < 256) → Exported s (said (reading s))
-exported s b = go (reading s) refl
-  where
-    go : (r : Reading Shape) → reading s ≡ r → Exported s (said r)
-    go (got t w) p =
-        let h = encode-reading s t w (bytes-by-index s b) p .1 in
-        (omega (arith, h .short), omega (arith, h .shallow), rw p)
-    go (bad number place) p = let f = refusal-small s number place p in (omega arith, omega arith, rw p)
+-- An answer of small numbers fits.
+given : (a : Answer) → a .number ≤ 18 → a .place ≤ 2049 → a .length ≤ 2049 → a .extra ≤ 2049 → Given a a
+given a n p l e = record { number = omega arith; place = omega arith; length = omega arith; extra = omega arith; is = refl }
+
+-- So does a refusal.
+given-refusal : (number place : ℕ) → number ≤ 18 → place ≤ 2049 → Given (refused number place) (refused number place)
+given-refusal number place n p = given (refused number place) n p (omega arith) (omega arith)
+
+-- what the calls below say, as the exported calls put it
+abbrev readPut : Judgement → Answer
+readPut (Accepted length depth) = answered 0 length depth
+readPut (Refused number place) = refused number place
+
+abbrev childPut : FoundChild → Answer
+childPut (child.Part place length) = answered place length 0
+childPut (child.Primitive number) = answered number 0 1
+childPut (child.Refused number place) = refused number place
+
+abbrev namePut : FoundName → Answer
+namePut (name.Text place length) = answered place length 0
+namePut (name.Refused number place) = refused number place
+
+module _ (s : List ℕ) (bytes : (i : ℕ) → getD s i 0 < 256) where
+  -- An input is a shape within the limits, or is refused with small numbers.
+  by-reading : (P : Reading Shape → Type 0) → ((t : Shape) (left : List ℕ) → Within t → P (got t left)) → ((number place : ℕ) → number ≤ 18 → place ≤ 2049 → P (bad number place)) → P (reading s)
+  by-reading P h k = go (reading s) refl
+    where
+      go : (r : Reading Shape) → reading s ≡ r → P r
+      go (got t left) p = h t left (encode-reading s t left (bytes-by-index s bytes) p .1)
+      go (bad number place) p = let f = refusal-small s number place p in k number place (omega arith) (omega arith)
+
+  pub exported : Given (readPut (said (reading s))) (readAnswer (reading s))
+  exported = by-reading (λ r. Given (readPut (said r)) (readAnswer r)) (λ t left w. given _ (omega arith) (omega arith) (omega (arith, w .short)) (omega (arith, w .shallow))) given-refusal
+
+  pub exported-child : (k : ℕ) → Given (childPut (childSaid (reading s) k)) (childAnswer (reading s) k)
+  unfolding childOf
+  exported-child k = by-reading (λ r. Given (childPut (childSaid r k)) (childAnswer r k)) found given-refusal
+    where
+      child : (t : Shape) → Within t → k < length (children t) → Given (childPut (toldChild (childOf t k))) (childAnswered (childOf t k))
+      child t w h =
+          rule (λ c. Given (childPut (toldChild c)) (childAnswered c)) (hasShort t) _ _ (λ p. given _ (omega arith) (omega (arith, packed-number t k p h)) (omega arith) (omega arith)) λ p.
+          let i = child-inside t k p h in
+          given _ (omega arith) (omega (arith, w .short)) (omega (arith, w .short)) (omega arith)
+
+      found : (t : Shape) (left : List ℕ) → Within t → Given (childPut (childSaid (got t left) k)) (childAnswer (got t left) k)
+      found t left w = both (λ a b. Given (childPut a) b) (ltb k (length (children t))) _ _ _ _ (λ p. child t w (ltb-true _ _ p)) (λ _. given-refusal _ _ (omega arith) (omega (arith, children-few t, w .short)))
+
+  pub exported-name : (k : ℕ) → Given (namePut (nameSaid (reading s) k)) (nameAnswer (reading s) k)
+  exported-name k = by-reading (λ r. Given (namePut (nameSaid r k)) (nameAnswer r k)) found given-refusal
+    where
+      found : (t : Shape) (left : List ℕ) → Within t → Given (namePut (nameSaid (got t left) k)) (nameAnswer (got t left) k)
+      found t left w =
+          both (λ a b. Given (namePut a) b) (ltb k (length (names t))) _ _ _ _
+          (λ p. let i = name-inside t k (ltb-true _ _ p) in given _ (omega arith) (omega (arith, w .short)) (omega (arith, w .short)) (omega arith))
+          (λ _. given-refusal _ _ (omega arith) (omega (arith, names-few t, w .short)))

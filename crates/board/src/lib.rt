@@ -1,9 +1,11 @@
 // Every call that a host makes, on byte slices and plain numbers. Each trusts nobody to have looked first. include/shiulbart.h is this page for C.
+use parts::FoundChild;
+use parts::FoundName;
 use reader::Judgement;
 ghost use mathlib.Core.Path.{_≡_};
 ghost use Prim.Native.Nat.{_<_};
 ghost use Rattle.meaning.specs.Reading.{reading};
-ghost use Rattle.board.specs.Answers.{answered, refused, readAnswer};
+ghost use Rattle.board.specs.Answers.{answered, refused, readAnswer, childAnswer, nameAnswer};
 
 // What every call says. Number 0 is an answer; otherwise number and place are the paper's. A field that a call does not use is 0.
 #[repr(C)]
@@ -15,13 +17,13 @@ pub struct Answer {
 }
 
 // An answer in 32 bits a number.
-fn answer_of(length: usize, extra: usize) -> Answer
-    requires { ⌜ (length < 4294967296) × (extra < 4294967296) ⌝ }
-    ensures { λ r. ⌜ r ≡ answered length extra ⌝ }
+fn answer_of(place: usize, length: usize, extra: usize) -> Answer
+    requires { ⌜ (place < 4294967296) × (length < 4294967296) × (extra < 4294967296) ⌝ }
+    ensures { λ r. ⌜ r ≡ answered place length extra ⌝ }
 {
     Answer {
         number: 0,
-        place: 0,
+        place: place as u32,
         length: length as u32,
         extra: extra as u32,
     }
@@ -47,6 +49,29 @@ pub extern "C" fn shiulbart_read(bytes: &[u8]) -> Answer
 {
     match reader::read(bytes) {
         Judgement::Refused { number, place } => refusal_of(number, place),
-        Judgement::Accepted { length, depth } => answer_of(length, depth),
+        Judgement::Accepted { length, depth } => answer_of(0, length, depth),
+    }
+}
+
+// Child k of an encoding: its place and length, or a primitive's number as place with extra 1, or the refusal.
+#[no_mangle]
+pub extern "C" fn shiulbart_child(bytes: &[u8], k: u64) -> Answer
+    ensures { λ r. ⌜ r ≡ childAnswer (reading (now (bytes .entry))) k ⌝ }
+{
+    match parts::child(bytes, k) {
+        FoundChild::Refused { number, place } => refusal_of(number, place),
+        FoundChild::Primitive { number } => answer_of(number, 0, 1),
+        FoundChild::Part { place, length } => answer_of(place, length, 0),
+    }
+}
+
+// Name k of an encoding: its text's place and length, or the refusal.
+#[no_mangle]
+pub extern "C" fn shiulbart_name(bytes: &[u8], k: u64) -> Answer
+    ensures { λ r. ⌜ r ≡ nameAnswer (reading (now (bytes .entry))) k ⌝ }
+{
+    match parts::name(bytes, k) {
+        FoundName::Refused { number, place } => refusal_of(number, place),
+        FoundName::Text { place, length } => answer_of(place, length, 0),
     }
 }

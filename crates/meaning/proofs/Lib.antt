@@ -8,3 +8,4 @@ pub mod Laws
 pub mod Faults
 pub mod Heads
 pub mod Lists
+pub mod Parts

@@ -18,7 +18,7 @@ use Rattle.meaning.specs.Reading.{hasShort}
 use Rattle.meaning.specs.Parts.{fieldShapes, parameterShapes, children, fieldNames, names, Item, bare, named, lone, fieldItems, parameterItems, textItems, items, nameBytes, shapeBytes, listBytes, listStart, itemOf, childShape, nameText}
 use Rattle.meaning.proofs.Sound.{long-array, long-map}
 
-list-append : (a b : List Item) → listBytes (a ++ b) ≡ listBytes a ++ listBytes b
+pub list-append : (a b : List Item) → listBytes (a ++ b) ≡ listBytes a ++ listBytes b
 unfolding listBytes
 list-append [] b = refl
 list-append (i ∷ a) b = rw (list-append a b, append-assoc (nameBytes i) (shapeBytes i ++ listBytes a) (listBytes b), append-assoc (shapeBytes i) (listBytes a) (listBytes b))

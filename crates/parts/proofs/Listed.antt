@@ -1,12 +1,11 @@
 -- A shape with a list in its payload: what the steps find of its children and names is what the meaning says.
 -- Assumes nothing.
-use mathlib.Core.Path.{_≡_, refl, ap, _∙_}
+use mathlib.Core.Path.{_≡_, refl, ap}
 use mathlib.Core.Bool.{Bool, true, false}
 use mathlib.Core.List.{List, [], _∷_, _++_, append-assoc}
 use Prim.Native.Nat.{ℕ, zero, suc, _+_, _-_, _≤_, _<_}
 use native.Mathlib.Omega.{arith}
 use lib.ListN.{length, drop, getD, length-append}
-use lib.Seq.{drop-cons}
 use lib.Dec.{ltb}
 use borrow.Author.Tests.{ltb-true, le-ltb}
 use Rattle.meaning.specs.Rules.{_⇒_∣_}
@@ -18,6 +17,7 @@ use Rattle.meaning.specs.Parts.{Item, named, lone, items, nameBytes, shapeBytes
 use Rattle.meaning.specs.Numbers.{leb128}
 use Rattle.meaning.proofs.Rules.{both}
 use Rattle.meaning.proofs.Complete.{leb-pos}
+use Rattle.meaning.proofs.Parts.{item-bytes}
 use Rattle.meaning.proofs.Lists.{list-of, child-is, textOf, name-is}
 use Rattle.reader.specs.declared.first.Kind as first
 use Rattle.reader.specs.declared.payload.Opening.the-variants.{Items}
@@ -27,7 +27,7 @@ use Rattle.parts.specs.declared.FoundChild.the-variants as child
 use Rattle.parts.specs.declared.FoundName.the-variants as name
 use Rattle.parts.specs.Said.{childSaid, nameSaid, toldChild}
 use Rattle.parts.specs.Steps.{pastName, pastItems, childFrom, nameFrom, childIn, nameIn}
-use Rattle.parts.proofs.Places.{Stands, stands-length, stands-after, past-shape, leb-at, Of, of-bare, of-named, of-lone, AllOf, past-name, stands-rest, past-items}
+use Rattle.parts.proofs.Places.{Stands, stands-length, stands-after, past-shape, leb-at, Of, of-bare, of-named, of-lone, AllOf, past-name, past-items}
 
 -- a shape whose payload is a list of items of a kind
 pub record Listed (t : Shape) (kind : first.Kind) : Type 0 where
@@ -50,14 +50,12 @@ record Here (t : Shape) (kind : first.Kind) (k : ℕ) : Type 0 where
   stands : Stands (encode t) (itemPlace t k) (nameBytes (itemOf t k) ++ (shapeBytes (itemOf t k) ++ after))
 
 here : (t : Shape) (kind : first.Kind) → Listed t kind → (k : ℕ) → k < length (items t) → Here t kind k
-unfolding listBytes
 here t kind l k h =
-    let g = list-of t (l .long) (omega arith) in
     record {
-      place = past-items (encode t) kind k (listStart t) (items t) (l .all) (omega arith) g;
+      place = past-items (encode t) kind k (listStart t) (items t) (l .all) (omega arith) (list-of t (l .long) (omega arith));
       of = of-at kind (items t) k (lone []) (l .all) h;
       after = listBytes (drop (suc k) (items t));
-      stands = stands-rest (encode t) (listStart t) k (items t) g ∙ ap listBytes (drop-cons (items t) k (lone []) h);
+      stands = item-bytes t k (l .long) h;
     }
 
 child-at : (s : List ℕ) (start : ℕ) (kind : first.Kind) (i : Item) (x : List ℕ) → Of kind i → Walk.shaped kind ≡ true → Stands s start (shapeBytes i ++ x)

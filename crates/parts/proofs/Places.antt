@@ -19,7 +19,6 @@ use Rattle.meaning.specs.FirstByte.{Kind, kindByte, classOf}
 use Rattle.meaning.specs.Encode.{sized, textBytes, encode}
 use Rattle.meaning.specs.Parts.{Item, bare, named, lone, nameBytes, shapeBytes, listBytes}
 use Rattle.meaning.proofs.Complete.{count-reads, two-value, class-kind, encode-pos, leb-pos}
-use Rattle.meaning.proofs.Lists.{list-drop}
 use Rattle.meaning.proofs.Heads.{Head, whole-byte, packed-byte, payload, head-of}
 use Rattle.leaves.specs.Leb.{lebAt}
 use Rattle.leaves.specs.declared.Leb.the-variants.{Number}
@@ -109,10 +108,7 @@ past-item s at kind i x o h = rw (past-name s at kind i _ o h) (go i o (stands-a
     go j (of-named t c n p b) g = rw p (past-shape s _ c x g)
     go j (of-lone t n p b) g = rw p (sym (add-zero _))
 
--- after k items of a list stands its rest
-pub stands-rest : (s : List ℕ) (at k : ℕ) (is : List Item) → Stands s at (listBytes is) → Stands s (at + length (listBytes (take k is))) (listBytes (drop k is))
-stands-rest s at k is h = sym (drop-drop (length (listBytes (take k is))) at s) ∙ ap (drop (length (listBytes (take k is)))) h ∙ list-drop is k
-
+-- the place after k items of a list is the place after their bytes
 pub past-items : (s : List ℕ) (kind : first.Kind) (k at : ℕ) (is : List Item) → AllOf kind is → k ≤ length is → Stands s at (listBytes is)
     → pastItems s kind k at ≡ at + length (listBytes (take k is))
 unfolding pastItems listBytes

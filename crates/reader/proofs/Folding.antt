@@ -1,6 +1,6 @@
 -- What a Fold makes of a shape, and that `depths` makes its depth.
 -- Assumes nothing.
-use mathlib.Core.Path.{_≡_, refl, sym, ap, _∙_}
+use mathlib.Core.Path.{_≡_, refl, ap, _∙_}
 use mathlib.Core.Bool.{Bool, true, false}
 use mathlib.Core.List.{List, [], _∷_}
 use mathlib.Core.Option.{Option, none, some}
@@ -13,7 +13,7 @@ use Rattle.meaning.specs.FirstByte.{code, shortBlanks, primByte, arrayByte, map
 use Rattle.meaning.specs.Encode.{asPrim}
 use Rattle.meaning.proofs.Complete.{as-prim}
 use Rattle.reader.specs.declared.first.Kind.{Kind}
-use Rattle.reader.specs.declared.first.Kind.the-variants.{Array, Map, Record, Function, Symbol, Variable}
+use Rattle.reader.specs.declared.first.Kind.the-variants.{Array, Map, Record, Function, Symbol}
 use Rattle.reader.specs.Walk.{Fold, depths}
 
 -- of a shape something is made, and a list goes on from what was made before it

@@ -1,7 +1,6 @@
 -- The items of a payload's list: texts, fields, parameters.
 -- Assumes nothing.
-use mathlib.Core.Path.{_≡_, refl, sym, ap, _∙_}
-use mathlib.Core.Bool.{Bool, true, false}
+use mathlib.Core.Path.{_≡_, refl}
 use mathlib.Core.List.{List, [], _∷_}
 use Prim.Native.Nat.{ℕ, zero, suc, _≤_}
 use native.Mathlib.Omega.{arith}
@@ -10,8 +9,7 @@ use lib.Seq.{slice}
 use Rattle.meaning.specs.Shape.{Tree, shape, fields, parameters, noFields, field, noParameters, parameter}
 use Rattle.meaning.specs.Reading.{Reading, readTexts, readFields, readParameters}
 use Rattle.meaning.proofs.Window.{window-none}
-use Rattle.reader.specs.declared.first.Kind.{Kind}
-use Rattle.reader.specs.declared.first.Kind.the-variants.{Array, Map, Record, Function, Symbol, Variable}
+use Rattle.reader.specs.declared.first.Kind.the-variants.{Record, Function, Symbol}
 use Rattle.reader.specs.Walk.{Fold, Walker, labelAt, walkItems}
 use Rattle.reader.proofs.Folding.{bare, textsBy, fold}
 use Rattle.reader.proofs.Told.{Told, tree, refused, after-text, after-tree, re-told, text-told}

@@ -2,7 +2,7 @@
 -- Assumes nothing.
 use mathlib.Core.Path.{_≡_, refl, sym, ap, _∙_}
 use mathlib.Core.Bool.{Bool, true, false}
-use mathlib.Core.List.{List, [], _∷_}
+use mathlib.Core.List.{List}
 use mathlib.Core.Option.{Option, none, some}
 use Prim.Native.Nat.{ℕ, zero, suc, _+_, _≤_}
 use native.Mathlib.Omega.{arith}
@@ -15,9 +15,9 @@ use Rattle.meaning.specs.FirstByte.{array, map}
 use Rattle.meaning.specs.Encode.{asPrim}
 use Rattle.meaning.specs.Reading.{Reading, got, next, some?, hasShort, readTexts, readFields, readParameters, readPayload}
 use Rattle.reader.specs.declared.first.Kind.{Kind}
-use Rattle.reader.specs.declared.first.Kind.the-variants.{Array, Map, Record, Function, Symbol, Variable}
+use Rattle.reader.specs.declared.first.Kind.the-variants.{Array, Map, Record, Function, Symbol}
 use Rattle.reader.specs.Walk.{Out, came, stopped, Fold, Walker, after, labelAt, walkItems, madeOf, shortFormOf, primitiveAt}
-use Rattle.reader.proofs.Folding.{bare, arrayBy, mapBy, textsBy, fold}
+use Rattle.reader.proofs.Folding.{bare, arrayBy, mapBy, fold}
 use Rattle.reader.proofs.Told.{Told, tree, refused, after-tree, re-told}
 use Rattle.reader.proofs.Lists.{none-told, Fields, Parameters, Texts, texts-told, fields-told, parameters-told}
 use Rattle.reader.proofs.Ends.{Seen, Held}

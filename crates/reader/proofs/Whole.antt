@@ -14,7 +14,7 @@ use Rattle.meaning.specs.Rules.{_⇒_∣_}
 use Rattle.meaning.specs.Limits.{maxBytes, maxLevels}
 use Rattle.meaning.specs.Refusals.{sizeWrong}
 use Rattle.meaning.specs.Shape.{Tree, shape}
-use Rattle.meaning.specs.FirstByte.{Class, classOf}
+use Rattle.meaning.specs.FirstByte.{Class}
 use Rattle.meaning.specs.Reading.{Reading, got, bad, next, readClass, noLevel, readShape, atEnd, reading}
 use Rattle.meaning.proofs.Rules.{facts}
 use Rattle.meaning.proofs.Window.{window-none, window-some, window-all, place-some, bytes-by-index}
@@ -22,7 +22,6 @@ use Rattle.meaning.proofs.Laws.{encode-reading, nothing-left}
 use Rattle.reader.specs.declared.first.First.{First}
 use Rattle.reader.specs.declared.Judgement.{Judgement}
 use Rattle.reader.specs.declared.Judgement.the-variants.{Accepted, Refused}
-use Rattle.reader.specs.First.{firstSaid}
 use Rattle.reader.specs.Said.{said}
 use Rattle.reader.specs.Walk.{Out, came, stopped, Fold, Walker, after, primitive, primitiveAt, byFirst, shapeWith, walkShape, walkAll, depths}
 use Rattle.reader.proofs.Folding.{fold, fold-depth}

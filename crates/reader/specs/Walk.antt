@@ -2,6 +2,7 @@
 -- 01-scope.md, "Reading order", once more, as the code goes: by places in the input s, in a window that ends at end. What is made of the
 -- shapes on the way is left open (`Fold`), so that one theorem serves every walk over an input.
 use Prim.Native.Nat.{ℕ, zero, suc, _+_, _-_, _<_, _≤_, max}
+use mathlib.Core.Path.{_≡_}
 use mathlib.Core.List.{List}
 use mathlib.Core.Bool.{Bool, true, false}
 use lib.ListN.{length, getD}
@@ -25,6 +26,8 @@ use Rattle.reader.specs.declared.payload.Text.{Text}
 use Rattle.reader.specs.declared.payload.Text.the-variants.{Whole, Bad}
 use Rattle.reader.specs.declared.payload.Opening.{Opening}
 use Rattle.reader.specs.declared.payload.Opening.the-variants.{Items, Closed}
+use Rattle.reader.specs.declared.Head.{Head}
+use Rattle.reader.specs.declared.Head.the-variants.{Stop, One, More}
 use Rattle.reader.specs.declared.Walked.{Walked}
 use Rattle.reader.specs.declared.Walked.the-variants.{Shape, Refused}
 
@@ -219,3 +222,9 @@ told (Refused number place) = stopped number place
 abbrev pub WalkedInside : ℕ → Walked → Type 0
 WalkedInside left (Shape next depth) = depth ≤ left
 WalkedInside left (Refused number place) = Unit {0}
+
+-- what the head of a shape says of it: where the walk over it stops, or that it is one byte, or that it has a payload and a level for it
+abbrev pub HeadIs : ℕ → List ℕ → ℕ → ℕ → Head → Type 0
+HeadIs left s end at (Stop number place) = walkShape depths left s end at ≡ stopped number place
+HeadIs left s end at (One depth) = (walkShape depths left s end at ≡ came (at + 1) depth) × (depth ≤ left) × (at < end)
+HeadIs left s end at (More kind) = (at < end) × (0 < left) × (firstSaid (classOf (getD s at 0)) ≡ Long kind)

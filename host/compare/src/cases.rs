@@ -560,6 +560,70 @@ impl Iterator for Inputs {
     }
 }
 
+/// Generated inputs for `child` and `name`, without end: more of them than for `read` are accepted.
+pub struct PartInputs {
+    random: Random,
+    others: Inputs,
+}
+
+impl PartInputs {
+    pub fn new(seed: u64) -> PartInputs {
+        PartInputs {
+            random: Random::new(seed),
+            others: Inputs::new(seed.wrapping_add(1)),
+        }
+    }
+}
+
+impl Iterator for PartInputs {
+    type Item = Vec<u8>;
+
+    fn next(&mut self) -> Option<Vec<u8>> {
+        let random = &mut self.random;
+        match random.below(16) {
+            0..=10 => {
+                let mut tree = any_tree(random, MAX_BYTES);
+                if random.once_in(2) {
+                    while !has_a_list(&tree) {
+                        tree = any_tree(random, MAX_BYTES);
+                    }
+                }
+                Some(encode(&tree, Slip::None, random))
+            }
+            11 => Some(at_the_last_level(random)),
+            12 => Some(at_the_last_byte(random)),
+            _ => self.others.next(),
+        }
+    }
+}
+
+/// Whether the root has a list with something in it.
+fn has_a_list(tree: &Tree) -> bool {
+    match tree {
+        Tree::Record(fields) => !fields.is_empty(),
+        Tree::Function(_) => true,
+        Tree::Symbol(texts) => !texts.is_empty(),
+        _ => false,
+    }
+}
+
+/// A k for a shape of so many parts: mostly a part that is there, else one too large by a little or
+/// by much. Some of the large ones are a part's number in their low bits.
+pub fn any_k(random: &mut Random, count: u64) -> u64 {
+    let below = random.below(count.max(1) as usize) as u64;
+    match random.below(20) {
+        0 | 1 => 0,
+        2 | 3 => 1,
+        4..=11 => below,
+        12 | 13 => count.saturating_sub(1),
+        14 | 15 => count,
+        16 => count + 1,
+        17 => random.pick(&[1 << 32, 1 << 63, u64::MAX]),
+        18 => below + random.pick(&[1 << 8, 1 << 16, 1 << 31, 1 << 32, 1 << 63]),
+        _ => random.number(),
+    }
+}
+
 /// A few inputs of one sort.
 fn generate(random: &mut Random, to: &mut Vec<Vec<u8>>) {
     match random.below(1000) {

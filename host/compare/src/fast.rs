@@ -8,6 +8,8 @@
 //! models that the comparison has to tell apart from the model. The fault is a constant of the
 //! compiled function, so the right reader does not pay for it.
 
+pub mod parts;
+
 /// An encoding that was accepted.
 #[derive(Clone, Copy, Debug, PartialEq, Eq)]
 pub struct Accepted {

@@ -1,18 +1,19 @@
 //! The proved calls beside two other programs: the independent model, which says what is right, and
-//! a reader written in Rust for speed, which says what is fast. `bin/compare` compares them case by
-//! case, `bin/bench` measures their time and `bin/stack` their stack.
+//! one written in Rust for speed, which says what is fast. `bin/compare` compares them case by case,
+//! `bin/bench` measures their time and `bin/stack` their stack.
 //!
-//! A further call is added beside `read` in each place: its inputs in `cases`, its outcome of each
-//! program here, a function in `bin/compare`, its worst inputs in `stack`.
+//! A further call is added beside `read`, `child` and `name` in each place: its inputs in `cases`,
+//! its outcome of each program here, a function in `bin/compare`, its worst inputs in `stack`.
 
 pub mod cases;
 pub mod fast;
 pub mod random;
 pub mod shrink;
 pub mod stack;
+pub mod wrong;
 
 /// What a call says, as the four numbers of the board's answer. Number 0 is an answer; extra is the
-/// depth for `read`.
+/// depth for `read`, and 1 for a packed parent's child.
 #[derive(Clone, Copy, Debug, PartialEq, Eq)]
 pub struct Outcome {
     pub number: u32,
@@ -31,6 +32,15 @@ impl Outcome {
         }
     }
 
+    pub fn part(place: usize, length: usize, extra: u32) -> Outcome {
+        Outcome {
+            number: 0,
+            place: place as u32,
+            length: length as u32,
+            extra,
+        }
+    }
+
     pub fn refusal(number: u32, place: u32) -> Outcome {
         Outcome {
             number,
@@ -44,7 +54,8 @@ impl Outcome {
 impl std::fmt::Display for Outcome {
     fn fmt(&self, out: &mut std::fmt::Formatter<'_>) -> std::fmt::Result {
         match self.number {
-            0 => write!(out, "ok {} {}", self.length, self.extra),
+            0 if self.place == 0 => write!(out, "ok {} {}", self.length, self.extra),
+            0 => write!(out, "ok {} {} at {}", self.length, self.extra, self.place),
             number => write!(out, "no {number} {}", self.place),
         }
     }
@@ -115,6 +126,110 @@ pub mod read {
             fast::<PAST_LAST_CHARACTER>,
         ),
         ("skips the last byte of a block", fast::<LAST_OF_BLOCK>),
+    ];
+}
+
+/// A program for a call that asks for part k.
+pub type Parts = fn(&[u8], u64) -> Outcome;
+
+/// A model with one fault for such a call, and the fault in words.
+pub type WrongParts = (&'static str, Parts);
+
+/// `child` of each program.
+pub mod child {
+    use crate::wrong::child::*;
+    use crate::{fast, Outcome, WrongParts};
+
+    pub fn proved(bytes: &[u8], k: u64) -> Outcome {
+        match shiulbart::child(bytes, k) {
+            Ok(shiulbart::Child::Part { place, length }) => Outcome::part(place, length, 0),
+            Ok(shiulbart::Child::Primitive(primitive)) => {
+                Outcome::part(primitive.number() as usize, 0, 1)
+            }
+            Err(refusal) => Outcome::refusal(refusal.number(), refusal.place()),
+        }
+    }
+
+    pub fn model(bytes: &[u8], k: u64) -> Outcome {
+        match model::parts::child(bytes, k) {
+            Ok(model::parts::Child::Part { place, length }) => {
+                Outcome::part(place as usize, length as usize, 0)
+            }
+            Ok(model::parts::Child::Primitive(number)) => Outcome::part(number as usize, 0, 1),
+            Err(refusal) => Outcome::refusal(refusal.number, refusal.place),
+        }
+    }
+
+    pub fn fast(bytes: &[u8], k: u64) -> Outcome {
+        match fast::parts::child(bytes, k) {
+            Ok(fast::parts::Child::Part { place, length }) => Outcome::part(place, length, 0),
+            Ok(fast::parts::Child::Primitive(number)) => Outcome::part(number as usize, 0, 1),
+            Err(refusal) => Outcome::refusal(refusal.number, refusal.place),
+        }
+    }
+
+    pub const WRONG: [WrongParts; 16] = [
+        ("refuses everything", refuses_everything),
+        ("gives the return first", return_first),
+        ("does not count the return", no_return),
+        ("places a field at its name's length", at_its_name),
+        ("swaps a packed Map's children", packed_swapped),
+        ("gives packed children as parts", packed_as_parts),
+        ("gives a packed shape no children", packed_without),
+        ("gives primitive parts as packed", parts_as_packed),
+        ("gives a Symbol's texts", texts_too),
+        ("gives a length one less", length_one_less),
+        ("places a child in the payload", in_the_payload),
+        ("takes every count for one byte", count_of_one_byte),
+        ("counts one more in 18", one_more_counted),
+        ("gives k for the count in 18", k_for_the_count),
+        ("takes k modulo 2^32", k_of_32_bits),
+        ("gives 18 before 1 to 8", eighteen_first),
+    ];
+}
+
+/// `name` of each program.
+pub mod name {
+    use crate::wrong::name::*;
+    use crate::{fast, Outcome, WrongParts};
+
+    pub fn proved(bytes: &[u8], k: u64) -> Outcome {
+        match shiulbart::name(bytes, k) {
+            Ok(name) => Outcome::part(name.place, name.length, 0),
+            Err(refusal) => Outcome::refusal(refusal.number(), refusal.place()),
+        }
+    }
+
+    pub fn model(bytes: &[u8], k: u64) -> Outcome {
+        match model::parts::name(bytes, k) {
+            Ok((place, length)) => Outcome::part(place as usize, length as usize, 0),
+            Err(refusal) => Outcome::refusal(refusal.number, refusal.place),
+        }
+    }
+
+    pub fn fast(bytes: &[u8], k: u64) -> Outcome {
+        match fast::parts::name(bytes, k) {
+            Ok((place, length)) => Outcome::part(place, length, 0),
+            Err(refusal) => Outcome::refusal(refusal.number, refusal.place),
+        }
+    }
+
+    pub const WRONG: [WrongParts; 15] = [
+        ("refuses everything", refuses_everything),
+        ("places a name at its length", at_its_length),
+        ("counts a name's length into it", with_its_length),
+        ("takes every length for one byte", length_of_one_byte),
+        ("takes every count for one byte", count_of_one_byte),
+        ("places a name in the payload", in_the_payload),
+        ("gives names of a Function", function_too),
+        ("gives a Symbol no names", symbol_without),
+        ("gives the field for its name", field_for_name),
+        ("leaves empty names out", empty_left_out),
+        ("gives the first of equal names", first_of_equals),
+        ("counts one more in 18", one_more_counted),
+        ("gives k for the count in 18", k_for_the_count),
+        ("takes k modulo 2^32", k_of_32_bits),
+        ("gives 18 before 1 to 8", eighteen_first),
     ];
 }
 

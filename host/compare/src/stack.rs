@@ -2,11 +2,12 @@
 //! filled with a pattern, the call is made, and the lowest byte that lost the pattern says how far
 //! down the call went. What an empty call takes is subtracted.
 
-use crate::cases::{function, long, nested, record, symbol};
+use crate::cases::{function, leb128, long, nested, record, symbol};
+use crate::Parts;
 
 /// What a call may take.
 pub const MOST_FOR_READ: usize = 4096;
-pub const MOST_FOR_ANOTHER: usize = 8192;
+pub const MOST_FOR_ANOTHER: usize = 8192; // child and name too
 
 /// Painted below the caller: far more than any call may take.
 const PAINTED: usize = 512 * 1024;
@@ -129,4 +130,23 @@ pub fn worst_for_read() -> Vec<(&'static str, Vec<u8>)> {
         ),
         ("2,049 bytes", vec![0x00; 2049]),
     ]
+}
+
+/// The stored worst inputs for `child` and `name`: those for `read`, and more with a long list of
+/// texts or with no list at all. Each is asked for its last part and for the largest k.
+pub fn worst_for_parts() -> Vec<(&'static str, Vec<u8>)> {
+    let texts = [leb128(1021), vec![0; 1021]].concat();
+    let pairs = [leb128(680), [2, b'a', b'b'].repeat(680)].concat();
+    let mut inputs = worst_for_read();
+    inputs.push(("packed Map", vec![0x76]));
+    inputs.push(("Symbol of 1,021 empty texts", long(0x44, &texts)));
+    inputs.push(("Symbol of 680 texts of two letters", long(0x44, &pairs)));
+    inputs
+}
+
+/// The ks that a worst input is asked for: its last part, or 0, and the largest.
+pub fn worst_ks(call: Parts, bytes: &[u8]) -> [u64; 2] {
+    let none = call(bytes, u64::MAX);
+    let parts = if none.number == 18 { none.place } else { 0 };
+    [parts.saturating_sub(1).into(), u64::MAX]
 }

@@ -1,12 +1,15 @@
 //! The inputs are the same on every machine, and reach every depth and number.
 
-use compare::cases::Inputs;
+use compare::cases::{any_k, Inputs, PartInputs};
 use compare::random::Random;
 use compare::read;
 
 #[test]
 fn same_seed_same_inputs() {
     let inputs = |seed| Inputs::new(seed).take(2000).collect::<Vec<_>>();
+    assert_eq!(inputs(1), inputs(1));
+    assert_ne!(inputs(1), inputs(2));
+    let inputs = |seed| PartInputs::new(seed).take(2000).collect::<Vec<_>>();
     assert_eq!(inputs(1), inputs(1));
     assert_ne!(inputs(1), inputs(2));
 }
@@ -47,5 +50,24 @@ fn limits_are_among_them() {
         .collect();
     for length in [0, 1, 2, 4, 2047, 2048, 2049] {
         assert!(lengths.contains(&length), "no input of {length} bytes");
+    }
+}
+
+#[test]
+fn inputs_for_parts_are_mostly_accepted() {
+    let inputs = PartInputs::new(1).take(4000);
+    let accepted = inputs.filter(|bytes| read::model(bytes).number == 0);
+    assert!(accepted.count() > 2000);
+}
+
+#[test]
+fn every_sort_of_k() {
+    let mut random = Random::new(1);
+    for count in [0, 1, 2, 2041] {
+        let ks: Vec<u64> = (0..2000).map(|_| any_k(&mut random, count)).collect();
+        let telling = [0, 1, count, count + 1, 1 << 32, 1 << 63, u64::MAX];
+        assert!(telling.iter().all(|k| ks.contains(k)), "{count}");
+        assert!(ks.iter().filter(|&&k| k < count).count() >= 400 || count == 0);
+        assert!(count == 0 || ks.contains(&(count - 1)));
     }
 }

@@ -1,12 +1,27 @@
 //! Small inputs without a gap: the three programs agree on all of them.
 
-use compare::read;
+use compare::cases::{function, leb128, long, record};
+use compare::{child, name, read};
 
 fn agree(bytes: &[u8]) {
     let right = read::model(bytes);
     assert_eq!(read::proved(bytes), right, "proved, on {bytes:02X?}");
     assert_eq!(read::fast::<0>(bytes), right, "fast, on {bytes:02X?}");
 }
+
+fn parts_agree(bytes: &[u8], k: u64) {
+    let right = child::model(bytes, k);
+    let on = || format!("child {k} of {bytes:02X?}");
+    assert_eq!(child::proved(bytes, k), right, "proved, {}", on());
+    assert_eq!(child::fast(bytes, k), right, "fast, {}", on());
+    let right = name::model(bytes, k);
+    let on = || format!("name {k} of {bytes:02X?}");
+    assert_eq!(name::proved(bytes, k), right, "proved, {}", on());
+    assert_eq!(name::fast(bytes, k), right, "fast, {}", on());
+}
+
+/// The first parts, and numbers that are far too large.
+const KS: [u64; 7] = [0, 1, 2, 3, 1 << 32, 1 << 63, u64::MAX];
 
 #[test]
 fn every_input_of_up_to_two_bytes() {
@@ -56,6 +71,98 @@ fn every_text_of_four_telling_bytes() {
                     agree(&[0x44, 7, 0, 2, 3, a, b, c, 0, d]);
                 }
             }
+        }
+    }
+}
+
+#[test]
+fn the_parts_of_every_input_of_up_to_two_bytes() {
+    for k in KS {
+        parts_agree(&[], k);
+        for first in 0..=255 {
+            parts_agree(&[first], k);
+            for second in 0..=255 {
+                parts_agree(&[first, second], k);
+            }
+        }
+    }
+}
+
+#[test]
+fn the_parts_of_every_payload_of_up_to_two_bytes() {
+    for k in KS {
+        for first in 64..=69 {
+            parts_agree(&[first, 0, 0], k);
+            for a in 0..=255 {
+                parts_agree(&[first, 1, 0, a], k);
+                for b in 0..=255 {
+                    parts_agree(&[first, 2, 0, a, b], k);
+                }
+            }
+        }
+    }
+}
+
+/// Payloads of four bytes that mean something in a list.
+#[test]
+fn the_parts_of_every_list_of_telling_bytes() {
+    const TELLING: [u8; 10] = [0, 1, 2, 3, 0x20, 0x24, 0x60, 0x76, 0x61, 0xC3];
+    for first in 64..=69 {
+        for a in TELLING {
+            for b in TELLING {
+                for c in TELLING {
+                    for d in TELLING {
+                        for k in KS {
+                            parts_agree(&[first, 4, 0, a, b, c, d], k);
+                        }
+                    }
+                }
+            }
+        }
+    }
+}
+
+/// Lists whose count takes one byte or two, and all of their parts.
+#[test]
+fn all_parts_of_lists_of_up_to_300() {
+    for count in (0..4usize).chain(126..131).chain([255, 256, 300]) {
+        let fields = [0, 0x60, 1, b'n', 0x21].repeat(count.div_ceil(2));
+        let fields = match count % 2 {
+            0 => &fields[..],
+            _ => &fields[..fields.len() - 3],
+        };
+        let texts = [
+            leb128(count),
+            [0, 2, 0xC3, 0xA9].repeat(count / 2),
+            vec![0; count % 2],
+        ];
+        for bytes in [
+            function(count, &vec![0x05; count], &[0x40, 1, 0, 0x00]),
+            function(count, &[0x40, 1, 0, 0x00].repeat(count), &[0x20]),
+            record(count, fields),
+            long(0x44, &texts.concat()),
+        ] {
+            assert_eq!(read::model(&bytes).number, 0);
+            (0..count as u64 + 3).for_each(|k| parts_agree(&bytes, k));
+        }
+    }
+}
+
+/// Names and fields whose length or size takes one byte or two.
+#[test]
+fn parts_after_long_names_and_fields() {
+    for letters in [0, 1, 126, 127, 128, 129, 255, 256, 257, 450] {
+        let name = [leb128(letters), vec![b'a'; letters]].concat();
+        let field = long(0x44, &[&[1], &name[..]].concat());
+        let fields = [&name, &[0x20][..], &name, &field, &[0], &field].concat();
+        for bytes in [
+            record(3, &fields),
+            function(2, &[&field[..], &[0x76]].concat(), &field),
+            long(0x41, &[&field[..], &field].concat()),
+            long(0x44, &[&[2], &name[..], &name].concat()),
+        ] {
+            assert_eq!(read::model(&bytes).number, 0);
+            KS.into_iter().for_each(|k| parts_agree(&bytes, k));
         }
     }
 }

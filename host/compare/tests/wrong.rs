@@ -1,8 +1,9 @@
 //! Every wrong model is told apart by a small input; the outcomes are those that 01-scope.md gives.
 
-use compare::cases::{function, long, nested, symbol};
+use compare::cases::{function, long, nested, record, symbol};
 use compare::read::{self, WRONG};
 use compare::shrink::shrink;
+use compare::{child, name};
 
 #[test]
 fn each_differs_on_a_small_input() {
@@ -42,6 +43,71 @@ fn each_differs_on_a_small_input() {
         assert_eq!(read::model(input).to_string(), *right, "{fault}");
         assert_eq!(read::fast::<0>(input).to_string(), *right, "{fault}");
         assert_eq!(model(input).to_string(), *wrong, "{fault}");
+    }
+}
+
+/// M4 of the bench card.
+const M4: [u8; 10] = [0x42, 7, 0, 2, 1, b'a', 0x20, 1, b'b', 0x62];
+
+#[test]
+fn each_of_child_differs_on_a_small_input() {
+    let packed_return = vec![0x43, 3, 0, 1, 0x05, 0x60];
+    let wide = function(128, &[0x05; 128], &[0x20]);
+    // in the order of WRONG: an input, k, what is right, what the wrong model says
+    let told_apart: [(Vec<u8>, u64, &str, &str); child::WRONG.len()] = [
+        (vec![0x60], 0, "ok 0 1", "no 18 0"),
+        (packed_return, 0, "ok 1 0 at 4", "ok 1 0 at 5"),
+        (vec![0x43, 2, 0, 0, 0x20], 0, "ok 1 0 at 4", "no 18 0"),
+        (M4.to_vec(), 1, "ok 1 0 at 9", "ok 1 0 at 7"),
+        (vec![0x76], 0, "ok 0 1 at 3", "ok 0 1 at 2"),
+        (vec![0x76], 0, "ok 0 1 at 3", "ok 1 0"),
+        (vec![0x76], 2, "no 18 2", "no 18 0"),
+        (M4.to_vec(), 0, "ok 1 0 at 6", "ok 0 1"),
+        (symbol(b"a"), 0, "no 18 0", "ok 1 0 at 5"),
+        (long(0x40, &[0]), 0, "ok 1 0 at 3", "ok 0 0 at 3"),
+        (M4.to_vec(), 1, "ok 1 0 at 9", "ok 1 0 at 6"),
+        (wide, 128, "ok 1 0 at 133", "ok 1 0 at 132"),
+        (vec![0x20], 0, "no 18 0", "no 18 1"),
+        (vec![0x20], 1, "no 18 0", "no 18 1"),
+        (M4.to_vec(), 1 << 32, "no 18 2", "ok 1 0 at 6"),
+        (vec![0x20, 0x20], 0, "no 3 1", "no 18 0"),
+    ];
+    for ((input, k, right, wrong), (fault, model)) in told_apart.iter().zip(child::WRONG) {
+        assert_eq!(child::model(input, *k).to_string(), *right, "{fault}");
+        assert_eq!(child::fast(input, *k).to_string(), *right, "{fault}");
+        assert_eq!(model(input, *k).to_string(), *wrong, "{fault}");
+    }
+}
+
+#[test]
+fn each_of_name_differs_on_a_small_input() {
+    let long_text = symbol(&[b'a'; 128]);
+    let wide = record(128, &[0x00, 0x01].repeat(128));
+    let equal = vec![0x42, 7, 0, 2, 1, b'a', 0x20, 1, b'a', 0x20];
+    let empty = vec![0x44, 4, 0, 2, 0, 1, b'a'];
+    let function = vec![0x43, 2, 0, 0, 0x20];
+    // in the order of WRONG: an input, k, what is right, what the wrong model says
+    let told_apart: [(Vec<u8>, u64, &str, &str); name::WRONG.len()] = [
+        (M4.to_vec(), 0, "ok 1 0 at 5", "no 18 0"),
+        (M4.to_vec(), 1, "ok 1 0 at 8", "ok 1 0 at 7"),
+        (M4.to_vec(), 1, "ok 1 0 at 8", "ok 2 0 at 8"),
+        (long_text, 0, "ok 128 0 at 6", "ok 128 0 at 5"),
+        (wide, 127, "ok 0 0 at 260", "ok 0 0 at 259"),
+        (M4.to_vec(), 1, "ok 1 0 at 8", "ok 1 0 at 5"),
+        (function, 0, "no 18 0", "ok 1 0 at 4"),
+        (symbol(b"a"), 0, "ok 1 0 at 5", "no 18 0"),
+        (M4.to_vec(), 1, "ok 1 0 at 8", "ok 1 0 at 9"),
+        (empty, 0, "ok 0 0 at 5", "ok 1 0 at 6"),
+        (equal, 1, "ok 1 0 at 8", "ok 1 0 at 5"),
+        (vec![0x20], 0, "no 18 0", "no 18 1"),
+        (vec![0x20], 1, "no 18 0", "no 18 1"),
+        (M4.to_vec(), 1 << 32, "no 18 2", "ok 1 0 at 5"),
+        (vec![0x20, 0x20], 0, "no 3 1", "no 18 0"),
+    ];
+    for ((input, k, right, wrong), (fault, model)) in told_apart.iter().zip(name::WRONG) {
+        assert_eq!(name::model(input, *k).to_string(), *right, "{fault}");
+        assert_eq!(name::fast(input, *k).to_string(), *right, "{fault}");
+        assert_eq!(model(input, *k).to_string(), *wrong, "{fault}");
     }
 }
 

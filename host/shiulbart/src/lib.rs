@@ -18,6 +18,19 @@
 //! assert_eq!(refusal.to_string(), "cut short at byte 0");
 //! ```
 //!
+//! [`read`] judges an encoding. [`child`] and [`name`] answer a part of it in place; [`children`]
+//! and [`names`] go through all of them:
+//!
+//! ```
+//! # fn main() -> Result<(), shiulbart::Refusal> {
+//! # let record = [0x42, 7, 0, 2, 1, b'a', 0x20, 1, b'b', 0x62];
+//! for (name, (_, field)) in shiulbart::names(&record)?.zip(shiulbart::children(&record)?) {
+//!     println!("{name}: {} levels", shiulbart::read(field)?.depth);
+//! }
+//! # Ok(())
+//! # }
+//! ```
+//!
 //! # Memory
 //!
 //! Inputs are only read, and no call keeps a reference once it has returned. A call that writes its
@@ -36,10 +49,12 @@
 #![deny(unsafe_op_in_unsafe_fn)]
 #![warn(missing_docs)]
 
+mod parts;
 mod refusal;
 #[allow(unsafe_code)]
 mod sys;
 
+pub use parts::{child, children, name, names, Child, Children, Name, Names, Primitive};
 pub use refusal::{Refusal, RefusalKind};
 
 /// The length and depth of an accepted encoding, as [`read`] answers them.

@@ -14,6 +14,8 @@ pub(crate) struct Answer {
 
 extern "C" {
     fn shiulbart_read(bytes: *const u8, length: usize) -> Answer;
+    fn shiulbart_child(bytes: *const u8, length: usize, k: u64) -> Answer;
+    fn shiulbart_name(bytes: *const u8, length: usize, k: u64) -> Answer;
 }
 
 #[inline]
@@ -21,4 +23,16 @@ pub(crate) fn read(bytes: &[u8]) -> Answer {
     // SAFETY: a slice's pointer is never null, and is valid for reads of its length for as long as
     // it is borrowed; nothing writes to it meanwhile. The call keeps no pointer.
     unsafe { shiulbart_read(bytes.as_ptr(), bytes.len()) }
+}
+
+#[inline]
+pub(crate) fn child(bytes: &[u8], k: u64) -> Answer {
+    // SAFETY: as in `read`. Any k may come.
+    unsafe { shiulbart_child(bytes.as_ptr(), bytes.len(), k) }
+}
+
+#[inline]
+pub(crate) fn name(bytes: &[u8], k: u64) -> Answer {
+    // SAFETY: as in `read`. Any k may come.
+    unsafe { shiulbart_name(bytes.as_ptr(), bytes.len(), k) }
 }

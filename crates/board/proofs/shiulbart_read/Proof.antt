@@ -11,25 +11,25 @@ refusal-of-requires : tie.Need-refusal-of-requires
 refusal-of-requires c κs =
     let b = c .before in let r = b .before .before in let k = r .before in
     let e = rw (← r .read .ensures, b .number .given .1) at (exported (k .before .args .bytes .now) (λ i. omega (arith, k .shared-slice-known .given i))) in
-    (e .0, e .1)
+    (e .number, e .place)
 
 answer-of-requires : tie.Need-answer-of-requires
 answer-of-requires c κs =
     let b = c .before in let r = b .before .before in let k = r .before in
     let e = rw (← r .read .ensures, b .length .given .1) at (exported (k .before .args .bytes .now) (λ i. omega (arith, k .shared-slice-known .given i))) in
-    (e .0, e .1)
+    (e .place, e .length, e .extra)
 
 returns : tie.Need-returns
 returns c =
     let b = c .before .before in let r = b .before .before in let k = r .before in
     let e = rw (← r .read .ensures, b .number .given .1) at (exported (k .before .args .bytes .now) (λ i. omega (arith, k .shared-slice-known .given i))) in
-    c .refusal-of .ensures ∙ e .2
+    c .refusal-of .ensures ∙ e .is
 
 returns-2 : tie.Need-returns-2
 returns-2 c =
     let b = c .before .before in let r = b .before .before in let k = r .before in
     let e = rw (← r .read .ensures, b .length .given .1) at (exported (k .before .args .bytes .now) (λ i. omega (arith, k .shared-slice-known .given i))) in
-    c .answer-of .ensures ∙ e .2
+    c .answer-of .ensures ∙ e .is
 
 pub shiulbart-read-spec : {M : Type 1} → statement M
 shiulbart-read-spec =

@@ -3,12 +3,11 @@
 -- Assumes nothing.
 use borrow.Author.Needs.{needs}
 use native.Mathlib.Omega.{arith}
-use Prim.Native.Nat.{ℕ, _<_, _≤_, _+_, _*_, max}
-use mathlib.Core.Path.{_≡_, refl, sym, ap, _∙_}
-use Rattle.meaning.proofs.Rules.{tests}
-use Rattle.reader.specs.Walk.{walkItems, walkShape, shapeWith, byFirst, depths, told}
+use Prim.Native.Nat.{ℕ, _<_, _≤_, _+_, _*_}
+use mathlib.Core.Path.{_≡_, sym, ap, _∙_}
+use Rattle.reader.specs.Walk.{walkItems, walkShape, depths, told}
 use Rattle.reader.proofs.Inside.{walked-wider}
-use Rattle.reader.proofs.Steps.{shape-by, below-more, items-bad, items-refused, items-plain, items-shaped}
+use Rattle.reader.proofs.Steps.{shape-more, items-bad, items-refused, items-plain, items-shaped}
 use borrow.Fn.Kinds.{In}
 use borrow.Fn.PlainCycle.{Measures, is, falls, and}
 use Rattle.reader.proofs.items.Reads as items
@@ -18,12 +17,12 @@ use Rattle.reader.proofs.shape.Reads as shape
 use Rattle.reader.proofs.shape.Kinds as shape-kinds
 use Rattle.reader.proofs.+items+shape.Lts-shape as shape-lts
 use Rattle.reader.proofs.closing_at.Reads as closing-at-reads
-use Rattle.reader.proofs.first.first_of.Reads as first-of-reads
+use Rattle.reader.proofs.head_at.Reads as head-at-reads
 use Rattle.reader.proofs.payload.label_at.Reads as label-at-reads
 use Rattle.reader.proofs.larger.Reads as larger-reads
 use Rattle.reader.proofs.payload.opening_at.Reads as opening-at-reads
 use Rattle.reader.proofs.payload.shaped_kind.Reads as shaped-kind-reads
-use Rattle.reader.proofs.short_at.Reads as short-at-reads
+use Rattle.reader.proofs.run_of.Reads as run-of-reads
 use Rattle.reader.proofs.+items+shape.{statement}
 use Rattle.reader.proofs.+items+shape.Tie.{close}
 
@@ -49,12 +48,14 @@ shape-below t = and 1 shape-kinds.ps (falls 1 shape-kinds.ps _<_ μ-shape t) sha
 -- what each member's callees ask and give
 abbrev items-calls : ℕ → items-lts.Claims
 items-calls t = (
+  run-of-reads.Asked,
+  run-of-reads.Learnt,
   label-at-reads.Asked,
   label-at-reads.Learnt,
   shaped-kind-reads.Asked,
   shaped-kind-reads.Learnt,
-  short-at-reads.Asked,
-  short-at-reads.Learnt,
+  head-at-reads.Asked,
+  head-at-reads.Learnt,
   larger-reads.Asked,
   larger-reads.Learnt,
   shape-below t,
@@ -63,8 +64,6 @@ items-calls t = (
 
 abbrev shape-calls : ℕ → shape-lts.Claims
 shape-calls t = (
-  first-of-reads.Asked,
-  first-of-reads.Learnt,
   opening-at-reads.Asked,
   opening-at-reads.Learnt,
   items-below t,
@@ -87,28 +86,34 @@ module _ (t : ℕ) where
       let n = c .before in let l = n .before .before in
       (sym (l .before .before .loop .inv .2 ∙ items-bad _ _ _ _ _ _ _ _ (l .before .loop-test .taken) (sym (l .label-at .ensures) ∙ n .number .given .1)), tt)
 
+  items-returns-2 : items-lts.Need-returns-2 (items-calls t) (items-at t) items.Post items-Inv-loop items-μ-loop
+  items-returns-2 c =
+      let b = c .before in let a = b .before .before in let k = a .before .before in let n = k .before .before in let l = n .before .before in
+      let h = rw (b .number2 .given .1) at (a .head-at .ensures) in
+      (sym (l .before .before .loop .inv .2 ∙ items-refused _ _ _ _ _ _ _ _ (l .before .loop-test .taken) (sym (l .label-at .ensures) ∙ n .next .given .1) (sym (k .shaped-kind .ensures) ∙ a .before .if1 .taken) h), tt)
+
   items-loop-again : items-lts.Need-loop-again (items-calls t) (items-at t) items.Post items-Inv-loop items-μ-loop
   items-loop-again c =
-      let a = c .before .before in let k = a .before .before in let n = k .before .before in let l = n .before .before in
-      let h = a .short-at .ensures .1 (c .before .if2 .taken) in (
+      let d = c .before .before in let a = d .before .before in let k = a .before .before in let n = k .before .before in let l = n .before .before in
+      let h = rw (d .depth .given .1) at (a .head-at .ensures) in (
         omega arith,
         omega arith,
         l .before .before .loop .inv .2
-            ∙ items-shaped _ _ _ _ _ _ _ _ (l .before .loop-test .taken) (sym (l .label-at .ensures) ∙ n .next .given .1) (sym (k .shaped-kind .ensures) ∙ a .before .if1 .taken) (a .short-at .ensures .0 (c .before .if2 .taken))
+            ∙ items-shaped _ _ _ _ _ _ _ _ (l .before .loop-test .taken) (sym (l .label-at .ensures) ∙ n .next .given .1) (sym (k .shaped-kind .ensures) ∙ a .before .if1 .taken) (h .0)
             ∙ rw (← c .larger .ensures),
       )
 
-  items-returns-2 : items-lts.Need-returns-2 (items-calls t) (items-at t) items.Post items-Inv-loop items-μ-loop
-  items-returns-2 c =
-      let b = c .before in let r = b .before .before in let a = r .before .before in let k = a .before .before in let n = k .before .before in let l = n .before .before in (
+  items-returns-3 : items-lts.Need-returns-3 (items-calls t) (items-at t) items.Post items-Inv-loop items-μ-loop
+  items-returns-3 c =
+      let b = c .before in let r = b .before .before in let a = r .before .before .before .before in let k = a .before .before in let n = k .before .before in let l = n .before .before in (
         sym (l .before .before .loop .inv .2
-            ∙ items-refused _ _ _ _ _ _ _ _ (l .before .loop-test .taken) (sym (l .label-at .ensures) ∙ n .next .given .1) (sym (k .shaped-kind .ensures) ∙ a .before .if1 .taken) (sym (r .shape .ensures .0) ∙ ap told (b .number2 .given .1))),
+            ∙ items-refused _ _ _ _ _ _ _ _ (l .before .loop-test .taken) (sym (l .label-at .ensures) ∙ n .next .given .1) (sym (k .shaped-kind .ensures) ∙ a .before .if1 .taken) (sym (r .shape .ensures .0) ∙ ap told (b .number3 .given .1))),
         tt,
       )
 
   items-loop-again-2 : items-lts.Need-loop-again-2 (items-calls t) (items-at t) items.Post items-Inv-loop items-μ-loop
   items-loop-again-2 c =
-      let b = c .before .before in let r = b .before .before in let a = r .before .before in let k = a .before .before in let n = k .before .before in let l = n .before .before in
+      let b = c .before .before in let r = b .before .before in let a = r .before .before .before .before in let k = a .before .before in let n = k .before .before in let l = n .before .before in
       let h = rw (b .after .given .1) at (r .shape .ensures .1) in (
         omega arith,
         omega arith,
@@ -126,19 +131,9 @@ module _ (t : ℕ) where
             ∙ items-plain _ _ _ _ _ _ _ _ (l .before .loop-test .taken) (sym (l .label-at .ensures) ∙ n .next .given .1) (sym (k .shaped-kind .ensures) ∙ c .if1 .left),
       )
 
-  items-returns-3 : items-lts.Need-returns-3 (items-calls t) (items-at t) items.Post items-Inv-loop items-μ-loop
+  items-returns-4 : items-lts.Need-returns-4 (items-calls t) (items-at t) items.Post items-Inv-loop items-μ-loop
   unfolding walkItems
-  items-returns-3 c = let l = c .before in let z : l .loop .due ≡ 0 = omega arith in (sym (l .loop .inv .2 ∙ rw z), l .loop .inv .1)
-
-  shape-returns : shape-lts.Need-returns (shape-calls t) (shape-at t) shape.Post
-  unfolding shapeWith byFirst
-  shape-returns c = (rw shape-by (search tests), tt)
-
-  shape-returns-2 : shape-lts.Need-returns-2 (shape-calls t) (shape-at t) shape.Post
-  unfolding shapeWith byFirst
-  shape-returns-2 c =
-      let k = c .before .before in
-      (rw (shape-by, ← k .before .before .first-of .ensures, k .kind .given .1) (search tests), tt)
+  items-returns-4 c = let l = c .before in let z : l .loop .due ≡ 0 = omega arith in (sym (l .loop .inv .2 ∙ rw z), l .loop .inv .1)
 
   shape-items-requires : shape-lts.Need-items-requires (shape-calls t) (shape-at t) shape.Post
   shape-items-requires c κs =
@@ -146,75 +141,35 @@ module _ (t : ℕ) where
 
   shape-closing-at-requires : shape-lts.Need-closing-at-requires (shape-calls t) (shape-at t) shape.Post
   shape-closing-at-requires c κs =
-      let b = c .before in let i = b .before .before in let o = i .before .before in let q = o .before .before in
-      let h = rw (o .stop .given .1) at (q .opening-at .ensures .1) in
+      let b = c .before in let i = b .before .before in let o = i .before .before in
+      let h = rw (o .stop .given .1) at (o .before .before .opening-at .ensures .1) in
       let d = rw (b .next .given .1) at (i .items .ensures .1) in
-      omega (arith, q .before .before .before .before .before .before .before .before .before .pre)
+      omega arith
+
+  shape-returns : shape-lts.Need-returns (shape-calls t) (shape-at t) shape.Post
+  shape-returns c =
+      let b = c .before in let q = b .before .before in let p = q .before .before .pre .1 .2 in
+      (rw (shape-more _ _ _ _ _ (p .0) (p .1) (p .2), ← q .opening-at .ensures .0, b .number .given .1), tt)
+
+  shape-returns-2 : shape-lts.Need-returns-2 (shape-calls t) (shape-at t) shape.Post
+  shape-returns-2 c =
+      let b = c .before in let i = b .before .before in let o = i .before .before in let q = o .before .before in let p = q .before .before .pre .1 .2 in
+      (rw (shape-more _ _ _ _ _ (p .0) (p .1) (p .2), ← q .opening-at .ensures .0, o .stop .given .1, ← i .items .ensures .0, b .number2 .given .1), tt)
 
   shape-returns-3 : shape-lts.Need-returns-3 (shape-calls t) (shape-at t) shape.Post
-  unfolding shapeWith byFirst
   shape-returns-3 c =
-      (rw (shape-by, ← c .before .before .first-of .ensures, c .enum-told .given .1) (search tests), tt)
-
-  shape-returns-4 : shape-lts.Need-returns-4 (shape-calls t) (shape-at t) shape.Post
-  unfolding shapeWith byFirst
-  shape-returns-4 c =
-      let k = c .before .before in
-      (rw (shape-by, ← k .before .before .first-of .ensures, k .levels .given .1) (search tests), tt)
-
-  shape-returns-5 : shape-lts.Need-returns-5 (shape-calls t) (shape-at t) shape.Post
-  unfolding shapeWith byFirst
-  shape-returns-5 c =
-      let k = c .before .before in
-      (rw (shape-by, ← k .before .before .first-of .ensures, k .levels .given .1) (search tests), search needs)
-
-  shape-returns-6 : shape-lts.Need-returns-6 (shape-calls t) (shape-at t) shape.Post
-  unfolding shapeWith byFirst
-  shape-returns-6 c =
-      let b = c .before in let q = b .before .before in let k = q .before .before .before in
-      (rw (shape-by, ← k .before .before .first-of .ensures, k .kind .given .1, ← q .opening-at .ensures .0, b .number .given .1) (search tests), tt)
-
-  shape-returns-7 : shape-lts.Need-returns-7 (shape-calls t) (shape-at t) shape.Post
-  unfolding shapeWith byFirst
-  shape-returns-7 c =
-      let b = c .before in let i = b .before .before in let o = i .before .before in let q = o .before .before in let k = q .before .before .before in (
-        rw (
-          shape-by,
-          ← k .before .before .first-of .ensures,
-          k .kind .given .1,
-          ← q .opening-at .ensures .0,
-          o .stop .given .1,
-          below-more _ _ (q .before .if3 .left),
-          ← i .items .ensures .0,
-          b .number2 .given .1,
-        ) (search tests),
-        tt,
-      )
-
-  shape-returns-8 : shape-lts.Need-returns-8 (shape-calls t) (shape-at t) shape.Post
-  unfolding shapeWith byFirst
-  shape-returns-8 c =
-      let b = c .before .before in let i = b .before .before in let o = i .before .before in let q = o .before .before in let k = q .before .before .before in (
-        rw (
-          shape-by,
-          ← k .before .before .first-of .ensures,
-          k .kind .given .1,
-          ← q .opening-at .ensures .0,
-          o .stop .given .1,
-          below-more _ _ (q .before .if3 .left),
-          ← i .items .ensures .0,
-          b .next .given .1,
-          ← c .closing-at .ensures .0,
-        ) (search tests),
-        let d = rw (b .next .given .1) at (i .items .ensures .1) in
-            walked-wider (b .next .given .0 .1 .0 + 1) (k .before .before .before .before .before .before .args .left) (c .closing-at .result) (omega (arith, q .before .if3 .left)) (c .closing-at .ensures .1),
+      let b = c .before .before in let i = b .before .before in let o = i .before .before in let q = o .before .before in let p = q .before .before .pre .1 .2 in
+      let d = rw (b .next .given .1) at (i .items .ensures .1) in (
+        rw (shape-more _ _ _ _ _ (p .0) (p .1) (p .2), ← q .opening-at .ensures .0, o .stop .given .1, ← i .items .ensures .0, b .next .given .1, ← c .closing-at .ensures .0),
+        walked-wider (b .next .given .0 .1 .0 + 1) (q .before .before .args .left) (c .closing-at .result) (omega arith) (c .closing-at .ensures .1),
       )
 
 pub +items+shape-spec : {M : Type 1} → statement M
 +items+shape-spec =
     close μ-items μ-shape
     (λ t. items-lts.spec (items-calls t) (items-at t) items.Post items-Inv-loop items-μ-loop
-    (λ c. (omega arith, omega arith, refl))
+    (λ c κs. search needs)
+    (λ c. (c .run-of .ensures .1 .0, c .run-of .ensures .1 .1, c .run-of .ensures .0))
     (λ c. search needs)
     (λ c κs. search needs)
     (λ c. search needs)
@@ -222,29 +177,25 @@ pub +items+shape-spec : {M : Type 1} → statement M
     (λ c. search needs)
     (λ c κs. search needs)
     (λ c κs. search needs)
-    (λ c. let h = c .before .short-at .ensures .1 (c .if2 .taken) in search needs)
+    (λ c. search needs)
+    (items-returns-2 t)
+    (λ c. search needs)
+    (λ c. let h = rw (c .before .depth .given .1) at (c .before .before .before .head-at .ensures) in omega arith)
     (λ c κs. search needs)
     (λ c. search needs)
     (items-loop-again t)
-    (λ c κs. search needs)
     (λ c. search needs)
-    (items-returns-2 t)
+    (λ c κs. let h = rw (c .before .inner .given .1) at (c .before .before .before .head-at .ensures) in search needs)
+    (λ c. search needs)
+    (items-returns-3 t)
     (λ c. search needs)
     (λ c κs. search needs)
     (λ c. search needs)
     (items-loop-again-2 t)
     (λ c. search needs)
     (items-loop-again-3 t)
-    (items-returns-3 t))
+    (items-returns-4 t))
     (λ t. shape-lts.spec (shape-calls t) (shape-at t) shape.Post
-    (shape-returns t)
-    (λ c. search needs)
-    (λ c κs. search needs)
-    (λ c. search needs)
-    (λ c. search needs)
-    (λ c. search needs)
-    (λ c. search needs)
-    (shape-returns-2 t)
     (λ c κs. search needs)
     (λ c. search needs)
     (λ c. search needs)
@@ -253,9 +204,6 @@ pub +items+shape-spec : {M : Type 1} → statement M
     (λ c. search needs)
     (λ c. search needs)
     (shape-closing-at-requires t)
-    (shape-returns-3 t)
-    (shape-returns-4 t)
-    (shape-returns-5 t)
-    (shape-returns-6 t)
-    (shape-returns-7 t)
-    (shape-returns-8 t))
+    (shape-returns t)
+    (shape-returns-2 t)
+    (shape-returns-3 t))

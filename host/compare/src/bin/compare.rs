@@ -1,8 +1,9 @@
 //! Compares the proved calls with the independent model, case by case. See README.md.
 
+use compare::random::Random;
 use compare::read::{self, Read, WRONG};
 use compare::shrink::shrink;
-use compare::{cases, hex, Outcome};
+use compare::{cases, child, hex, name, Outcome, Parts, WrongParts};
 use std::process::ExitCode;
 use std::time::{Duration, Instant};
 
@@ -10,11 +11,21 @@ const USAGE: &str = "usage: compare --gate | --cases N [--seed S] [--wrong K]
   --gate     the gate's cases with the gate's seed
   --cases N  this many cases for each call
   --seed S   another seed than the gate's
-  --wrong K  wrong model K in the place of the proved read, to see a difference reported";
+  --wrong K  wrong model K in the place of its proved call, to see a difference reported";
 
 /// The gate's seed, and its cases for each call.
 const SEED: u64 = 2048;
 const READ_CASES: usize = 200_000;
+const PARTS_CASES: usize = 20_000;
+
+/// The numbers of the wrong models: those of `child` follow those of `read`, and so on.
+const WRONG_CHILD: usize = WRONG.len();
+const WRONG_NAME: usize = WRONG_CHILD + child::WRONG.len();
+const ALL_WRONG: usize = WRONG_NAME + name::WRONG.len();
+
+/// The numbers that a refusal of each call can carry.
+const READ_NUMBERS: [usize; 8] = [1, 2, 3, 4, 5, 6, 7, 8];
+const PARTS_NUMBERS: [usize; 9] = [1, 2, 3, 4, 5, 6, 7, 8, 18];
 
 /// What the gate's cases, or more, must hold for the comparison to mean something.
 const LEAST_OF_A_NUMBER: usize = 100;
@@ -49,7 +60,16 @@ fn options() -> Option<Options> {
         }
     }
     let alone = options.gate != (options.cases > 0);
-    (alone && options.wrong <= WRONG.len()).then_some(options)
+    (alone && options.wrong <= ALL_WRONG).then_some(options)
+}
+
+impl Options {
+    /// The wrong model that stands in for a proved call, if it is one of these. Before them come
+    /// those of other calls.
+    fn instead<T: Copy>(&self, wrong: &[(&str, T)], before: usize) -> Option<T> {
+        let index = self.wrong.checked_sub(before + 1)?;
+        wrong.get(index).map(|&(_, wrong)| wrong)
+    }
 }
 
 /// What passed and failed.
@@ -68,47 +88,41 @@ impl Count {
     }
 }
 
-/// How often each number and each depth came.
+/// How often each number came.
 #[derive(Default)]
 struct Tally {
     numbers: [usize; 19],
-    depths: [usize; 17],
 }
 
 impl Tally {
     fn add(&mut self, outcome: Outcome) {
         self.numbers[outcome.number as usize] += 1;
-        if outcome.number == 0 {
-            self.depths[outcome.extra as usize] += 1;
-        }
     }
 
-    fn print(&self, numbers: std::ops::RangeInclusive<usize>) {
+    /// The numbers that a call can give, and beside them how often something else came.
+    fn print(&self, numbers: &[usize], head: [&str; 2], others: &[(String, usize)]) {
         println!(
             "  {:>8} {:>8}   {:>8} {:>8}",
-            "number", "cases", "depth", "answers"
+            "number", "cases", head[0], head[1]
         );
-        let left = numbers.map(|number| match number {
-            0 => format!("{:>8} {:>8}", "answered", self.numbers[0]),
-            _ => format!("{number:>8} {:>8}", self.numbers[number]),
-        });
-        let right = (1..=16).map(|depth| format!("{depth:>8} {:>8}", self.depths[depth]));
-        let left: Vec<String> = left.collect();
-        for (i, right) in right.enumerate() {
-            let left = left.get(i).map_or("", |line| line.as_str());
-            println!("  {left:>17}   {right}");
+        let answered = ("answered".to_string(), self.numbers[0]);
+        let refused = numbers
+            .iter()
+            .map(|&number| (number.to_string(), self.numbers[number]));
+        let left: Vec<(String, usize)> = std::iter::once(answered).chain(refused).collect();
+        let cell = |column: &[(String, usize)], i: usize| match column.get(i) {
+            Some((what, times)) => format!("{what:>8} {times:>8}"),
+            None => String::new(),
+        };
+        for i in 0..left.len().max(others.len()) {
+            let line = format!("  {:>17}   {}", cell(&left, i), cell(others, i));
+            println!("{}", line.trim_end());
         }
     }
 
     /// Whether the cases hold enough of each number that a call can give, and of answers.
-    fn check(
-        &self,
-        call: &str,
-        cases: usize,
-        numbers: std::ops::RangeInclusive<usize>,
-        count: &mut Count,
-    ) {
-        for number in numbers {
+    fn check(&self, call: &str, cases: usize, numbers: &[usize], count: &mut Count) {
+        for &number in numbers {
             let times = self.numbers[number];
             if times < LEAST_OF_A_NUMBER {
                 println!("{call}: number {number} came {times} times, under {LEAST_OF_A_NUMBER}");
@@ -123,12 +137,13 @@ impl Tally {
 }
 
 /// Says which input it was, should a program panic.
-struct Running<'a>(&'a [u8]);
+struct Running<'a>(&'a [u8], Option<u64>);
 
 impl Drop for Running<'_> {
     fn drop(&mut self) {
         if std::thread::panicking() {
-            eprintln!("compare: that was on the input {}", hex(self.0));
+            let k = self.1.map_or(String::new(), |k| format!(", k = {k}"));
+            eprintln!("compare: that was on the input {}{k}", hex(self.0));
         }
     }
 }
@@ -161,13 +176,11 @@ fn compare_read(options: &Options, count: &mut Count) {
     } else {
         options.cases
     };
-    let proved = match options.wrong {
-        0 => read::proved,
-        k => WRONG[k - 1].1,
-    };
+    let proved = options.instead(&WRONG, 0).unwrap_or(read::proved);
     let others: [(&str, Read); 2] = [("proved", proved), ("fast", read::fast::<0>)];
     let mut told_apart = [None; WRONG.len()];
     let mut tally = Tally::default();
+    let mut depths = [0; 17];
     let mut progress = Progress::new();
     let mut differences = 0;
     let mut done = 0;
@@ -176,9 +189,10 @@ fn compare_read(options: &Options, count: &mut Count) {
     let generated_from = fixed.len();
     let inputs = fixed.into_iter().chain(cases::Inputs::new(options.seed));
     for (i, bytes) in inputs.take(all).enumerate() {
-        let running = Running(&bytes);
+        let running = Running(&bytes, None);
         let right = read::model(&bytes);
         tally.add(right);
+        depths[right.extra as usize] += 1;
         let mut same = true;
         for (name, other) in others {
             if other(&bytes) != right {
@@ -224,22 +238,170 @@ fn compare_read(options: &Options, count: &mut Count) {
         "read: {done} cases, {generated_from} of them fixed, seed {}, {seconds:.1} s",
         options.seed
     );
-    tally.print(0..=8);
-    println!("  wrong model, and after how many generated cases it was told apart");
-    for (i, ((fault, _), told)) in WRONG.iter().zip(told_apart).enumerate() {
-        match told {
-            Some(cases) => println!("  {:>8} {fault:<34} {cases:>8}", i + 1),
-            None => println!("  {:>8} {fault:<34} not told apart", i + 1),
-        }
-        if told.is_some() || all >= READ_CASES {
-            count.of(told.is_some());
-        }
-    }
+    let depths: Vec<(String, usize)> = (1..=16)
+        .map(|depth| (depth.to_string(), depths[depth]))
+        .collect();
+    tally.print(&READ_NUMBERS, ["depth", "answers"], &depths);
+    print_wrong(&WRONG, 0, &told_apart, all >= READ_CASES, count);
     if all >= READ_CASES {
-        tally.check("read", all, 1..=8, count);
+        tally.check("read", all, &READ_NUMBERS, count);
     } else {
         println!(
             "  under {READ_CASES} cases neither every number nor every wrong model is demanded"
+        );
+    }
+}
+
+/// The wrong models of a call, and after how many cases they were told apart. Before them come
+/// those of other calls.
+fn print_wrong<T>(
+    wrong: &[(&str, T)],
+    before: usize,
+    told_apart: &[Option<usize>],
+    demanded: bool,
+    count: &mut Count,
+) {
+    println!("  wrong model, and after how many generated cases it was told apart");
+    for (i, ((fault, _), told)) in wrong.iter().zip(told_apart).enumerate() {
+        let number = before + i + 1;
+        match told {
+            Some(cases) => println!("  {number:>8} {fault:<35} {cases:>7}"),
+            None => println!("  {number:>8} {fault:<35} not told apart"),
+        }
+        if told.is_some() || demanded {
+            count.of(told.is_some());
+        }
+    }
+}
+
+/// The programs of `child` or `name`.
+struct PartsCall {
+    name: &'static str,
+    proved: Parts,
+    fast: Parts,
+    model: Parts,
+    wrong: &'static [WrongParts],
+    wrong_before: usize,
+}
+
+impl PartsCall {
+    /// How many parts an encoding has, or nothing if it is bad.
+    fn parts(&self, bytes: &[u8]) -> Option<u64> {
+        let none = (self.model)(bytes, u64::MAX);
+        (none.number == 18).then_some(none.place.into())
+    }
+
+    /// The simplest k at which a program differs from the model: this one, or one near the first
+    /// part or the last.
+    fn telling_k(&self, other: Parts, bytes: &[u8], k: u64) -> Option<u64> {
+        let parts = self.parts(bytes).unwrap_or(0);
+        let last = parts.saturating_sub(1);
+        [0, 1, 2, last, parts, parts + 1, k]
+            .into_iter()
+            .find(|&k| other(bytes, k) != (self.model)(bytes, k))
+    }
+}
+
+/// Compares `child` or `name`, with one k for each input.
+fn compare_parts(call: &PartsCall, options: &Options, count: &mut Count) {
+    let all = if options.gate {
+        PARTS_CASES
+    } else {
+        options.cases
+    };
+    let proved = options
+        .instead(call.wrong, call.wrong_before)
+        .unwrap_or(call.proved);
+    let others: [(&str, Parts); 2] = [("proved", proved), ("fast", call.fast)];
+    let mut told_apart = vec![None; call.wrong.len()];
+    let mut tally = Tally::default();
+    let mut kinds_of_k = ["0", "1", "below", "count", "count+1", "more"].map(|kind| (kind, 0));
+    let mut progress = Progress::new();
+    let mut differences = 0;
+    let mut done = 0;
+
+    let mut random = Random::new(!options.seed);
+    let fixed = cases::always();
+    let generated_from = fixed.len();
+    let inputs = fixed
+        .into_iter()
+        .chain(cases::PartInputs::new(options.seed));
+    for (i, bytes) in inputs.take(all).enumerate() {
+        let parts = call.parts(&bytes);
+        let k = cases::any_k(&mut random, parts.unwrap_or(0));
+        let running = Running(&bytes, Some(k));
+        let right = (call.model)(&bytes, k);
+        tally.add(right);
+        if let Some(parts) = parts {
+            let kind = match k {
+                _ if k == parts => 3,
+                _ if k == parts + 1 => 4,
+                _ if k > parts => 5,
+                0 | 1 => k as usize,
+                _ => 2,
+            };
+            kinds_of_k[kind].1 += 1;
+        }
+        let mut same = true;
+        for (name, other) in others {
+            if other(&bytes, k) != right {
+                same = false;
+                if differences < SHOWN {
+                    println!(
+                        "{}: case {i}, k = {k}: {name} says {}, the model {right}",
+                        call.name,
+                        other(&bytes, k)
+                    );
+                    let small = shrink(&bytes, |bytes| call.telling_k(other, bytes, k).is_some());
+                    let k = call.telling_k(other, &small, k).unwrap_or(k);
+                    println!("  smallest input found: {}, k = {k}", hex(&small));
+                    println!(
+                        "  {name} says {}, the model {}",
+                        other(&small, k),
+                        (call.model)(&small, k)
+                    );
+                }
+                differences += 1;
+            }
+        }
+        count.of(same);
+        done += 1;
+        if i >= generated_from {
+            for ((_, wrong), told) in call.wrong.iter().zip(&mut told_apart) {
+                if told.is_none() && wrong(&bytes, k) != right {
+                    *told = Some(i + 1 - generated_from);
+                }
+            }
+        }
+        drop(running);
+        if differences >= GIVEN_UP {
+            println!("{}: given up after {differences} differences", call.name);
+            break;
+        }
+        if !options.gate {
+            progress.tell(call.name, done, all);
+        }
+    }
+
+    let seconds = progress.start.elapsed().as_secs_f64();
+    println!(
+        "{}: {done} cases, {generated_from} of them fixed, seed {}, {seconds:.1} s",
+        call.name, options.seed
+    );
+    let kinds_of_k = kinds_of_k.map(|(kind, times)| (kind.to_string(), times));
+    tally.print(&PARTS_NUMBERS, ["k", "accepted"], &kinds_of_k);
+    print_wrong(
+        call.wrong,
+        call.wrong_before,
+        &told_apart,
+        all >= PARTS_CASES,
+        count,
+    );
+    if all >= PARTS_CASES {
+        tally.check(call.name, all, &PARTS_NUMBERS, count);
+    } else {
+        println!(
+            "  under {PARTS_CASES} cases neither every number nor every wrong model is demanded"
         );
     }
 }
@@ -251,6 +413,24 @@ fn main() -> ExitCode {
     };
     let mut count = Count::default();
     compare_read(&options, &mut count);
+    let child = PartsCall {
+        name: "child",
+        proved: child::proved,
+        fast: child::fast,
+        model: child::model,
+        wrong: &child::WRONG,
+        wrong_before: WRONG_CHILD,
+    };
+    compare_parts(&child, &options, &mut count);
+    let name = PartsCall {
+        name: "name",
+        proved: name::proved,
+        fast: name::fast,
+        model: name::model,
+        wrong: &name::WRONG,
+        wrong_before: WRONG_NAME,
+    };
+    compare_parts(&name, &options, &mut count);
     println!("{} passed, {} failed", count.passed, count.failed);
     match count.failed {
         0 => ExitCode::SUCCESS,

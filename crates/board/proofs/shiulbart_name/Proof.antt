@@ -1,0 +1,44 @@
+-- `board::shiulbart_name` meets its contract: what is said of a name fits, and is what the call says.
+-- Assumes nothing.
+use borrow.Author.Needs.{needs}
+use native.Mathlib.Omega.{arith}
+use mathlib.Core.Path.{_∙_}
+use Rattle.board.proofs.Small.{exported-name}
+use Rattle.board.proofs.shiulbart_name.Statement.{statement}
+use Rattle.board.proofs.shiulbart_name.Tie as tie
+
+refusal-of-requires : tie.Need-refusal-of-requires
+refusal-of-requires c κs =
+    let b = c .before in let r = b .before .before in let a = r .before .before in
+    let e = rw (← r .name .ensures, b .number .given .1) at (exported-name (a .args .bytes .now) (λ i. omega (arith, r .before .shared-slice-known .given i)) (a .args .k)) in
+    (e .number, e .place)
+
+answer-of-requires : tie.Need-answer-of-requires
+answer-of-requires c κs =
+    let b = c .before in let r = b .before .before in let a = r .before .before in
+    let e = rw (← r .name .ensures, b .place .given .1) at (exported-name (a .args .bytes .now) (λ i. omega (arith, r .before .shared-slice-known .given i)) (a .args .k)) in
+    (e .place, e .length, e .extra)
+
+returns : tie.Need-returns
+returns c =
+    let b = c .before .before in let r = b .before .before in let a = r .before .before in
+    let e = rw (← r .name .ensures, b .number .given .1) at (exported-name (a .args .bytes .now) (λ i. omega (arith, r .before .shared-slice-known .given i)) (a .args .k)) in
+    c .refusal-of .ensures ∙ e .is
+
+returns-2 : tie.Need-returns-2
+returns-2 c =
+    let b = c .before .before in let r = b .before .before in let a = r .before .before in
+    let e = rw (← r .name .ensures, b .place .given .1) at (exported-name (a .args .bytes .now) (λ i. omega (arith, r .before .shared-slice-known .given i)) (a .args .k)) in
+    c .answer-of .ensures ∙ e .is
+
+pub shiulbart-name-spec : {M : Type 1} → statement M
+shiulbart-name-spec =
+    tie.close
+    (tie.spec
+    (λ c κs. search needs)
+    (λ c. search needs)
+    refusal-of-requires
+    (λ c. search needs)
+    answer-of-requires
+    returns
+    returns-2)
