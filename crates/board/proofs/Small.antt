@@ -3,13 +3,15 @@
 --     exported-child     of a child
 --     exported-name      of a name
 -- Assumes nothing.
-use Prim.Native.Nat.{ℕ, _≤_, _<_}
+use Prim.Native.Nat.{ℕ, _+_, _≤_, _<_}
 use mathlib.Core.Path.{_≡_, refl}
 use mathlib.Core.List.{List}
 use native.Mathlib.Omega.{arith}
 use lib.Dec.{ltb}
 use lib.ListN.{length, getD}
 use borrow.Author.Tests.{ltb-true}
+use Rattle.meaning.specs.Limits.{maxBytes}
+use Rattle.meaning.specs.Refusals.{noSuchPart}
 use Rattle.meaning.specs.Shape.{Shape}
 use Rattle.meaning.specs.Within.{Within}
 use Rattle.meaning.specs.Reading.{Reading, got, bad, hasShort, reading}
@@ -38,12 +40,16 @@ pub record Given (a b : Answer) : Type 0 where
   pub extra : a .extra < 4294967296
   pub is : a ≡ b
 
+-- the largest place, length and count that a call says: a child more than bytes
+abbrev most : ℕ
+most = 1 + maxBytes
+
 -- An answer of small numbers fits.
-given : (a : Answer) → a .number ≤ 18 → a .place ≤ 2049 → a .length ≤ 2049 → a .extra ≤ 2049 → Given a a
+given : (a : Answer) → a .number ≤ noSuchPart → a .place ≤ most → a .length ≤ most → a .extra ≤ most → Given a a
 given a n p l e = record { number = omega arith; place = omega arith; length = omega arith; extra = omega arith; is = refl }
 
 -- So does a refusal.
-given-refusal : (number place : ℕ) → number ≤ 18 → place ≤ 2049 → Given (refused number place) (refused number place)
+given-refusal : (number place : ℕ) → number ≤ noSuchPart → place ≤ most → Given (refused number place) (refused number place)
 given-refusal number place n p = given (refused number place) n p (omega arith) (omega arith)
 
 -- what the calls below say, as the exported calls put it
@@ -62,16 +68,18 @@ namePut (name.Refused number place) = refused number place
 
 module _ (s : List ℕ) (bytes : (i : ℕ) → getD s i 0 < 256) where
   -- An input is a shape within the limits, or is refused with small numbers.
-  by-reading : (P : Reading Shape → Type 0) → ((t : Shape) (left : List ℕ) → Within t → P (got t left)) → ((number place : ℕ) → number ≤ 18 → place ≤ 2049 → P (bad number place)) → P (reading s)
+  by-reading : (P : Reading Shape → Type 0) → ((t : Shape) (left : List ℕ) → Within t → P (got t left)) → ((number place : ℕ) → number ≤ noSuchPart → place ≤ most → P (bad number place)) → P (reading s)
   by-reading P h k = go (reading s) refl
     where
       go : (r : Reading Shape) → reading s ≡ r → P r
       go (got t left) p = h t left (encode-reading s t left (bytes-by-index s bytes) p .1)
       go (bad number place) p = let f = refusal-small s number place p in k number place (omega arith) (omega arith)
 
+  -- What the reader says of it is what `shiulbart_read` says.
   pub exported : Given (readPut (said (reading s))) (readAnswer (reading s))
   exported = by-reading (λ r. Given (readPut (said r)) (readAnswer r)) (λ t left w. given _ (omega arith) (omega arith) (omega (arith, w .short)) (omega (arith, w .shallow))) given-refusal
 
+  -- What is said of its child k is what `shiulbart_child` says.
   pub exported-child : (k : ℕ) → Given (childPut (childSaid (reading s) k)) (childAnswer (reading s) k)
   unfolding childOf
   exported-child k = by-reading (λ r. Given (childPut (childSaid r k)) (childAnswer r k)) found given-refusal
@@ -85,6 +93,7 @@ module _ (s : List ℕ) (bytes : (i : ℕ) → getD s i 0 < 256) where
       found : (t : Shape) (left : List ℕ) → Within t → Given (childPut (childSaid (got t left) k)) (childAnswer (got t left) k)
       found t left w = both (λ a b. Given (childPut a) b) (ltb k (length (children t))) _ _ _ _ (λ p. child t w (ltb-true _ _ p)) (λ _. given-refusal _ _ (omega arith) (omega (arith, children-few t, w .short)))
 
+  -- What is said of its name k is what `shiulbart_name` says.
   pub exported-name : (k : ℕ) → Given (namePut (nameSaid (reading s) k)) (nameAnswer (reading s) k)
   exported-name k = by-reading (λ r. Given (namePut (nameSaid r k)) (nameAnswer r k)) found given-refusal
     where

@@ -11,13 +11,13 @@ refusal-of-requires : tie.Need-refusal-of-requires
 refusal-of-requires c κs =
     let b = c .before in let r = b .before .before in let a = r .before .before in
     let e = rw (← r .name .ensures, b .number .given .1) at (exported-name (a .args .bytes .now) (λ i. omega (arith, r .before .shared-slice-known .given i)) (a .args .k)) in
-    (e .number, e .place)
+    search needs
 
 answer-of-requires : tie.Need-answer-of-requires
 answer-of-requires c κs =
     let b = c .before in let r = b .before .before in let a = r .before .before in
     let e = rw (← r .name .ensures, b .place .given .1) at (exported-name (a .args .bytes .now) (λ i. omega (arith, r .before .shared-slice-known .given i)) (a .args .k)) in
-    (e .place, e .length, e .extra)
+    search needs
 
 returns : tie.Need-returns
 returns c =

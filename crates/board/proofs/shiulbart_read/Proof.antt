@@ -11,13 +11,13 @@ refusal-of-requires : tie.Need-refusal-of-requires
 refusal-of-requires c κs =
     let b = c .before in let r = b .before .before in let k = r .before in
     let e = rw (← r .read .ensures, b .number .given .1) at (exported (k .before .args .bytes .now) (λ i. omega (arith, k .shared-slice-known .given i))) in
-    (e .number, e .place)
+    search needs
 
 answer-of-requires : tie.Need-answer-of-requires
 answer-of-requires c κs =
     let b = c .before in let r = b .before .before in let k = r .before in
     let e = rw (← r .read .ensures, b .length .given .1) at (exported (k .before .args .bytes .now) (λ i. omega (arith, k .shared-slice-known .given i))) in
-    (e .place, e .length, e .extra)
+    search needs
 
 returns : tie.Need-returns
 returns c =
