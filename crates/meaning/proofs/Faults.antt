@@ -27,14 +27,14 @@ pub record Fault (top n p : ℕ) : Type 0 where
 abbrev Faulty : {A : Type 0} → ℕ → Reader A → Type 0
 Faulty top m = (e : ℕ) (w : List ℕ) (n p : ℕ) → e ≤ top → m e w ≡ bad n p → Fault top n p
 
-not-bad : {A : Type 0} {n p : ℕ} {a : A} {v : List ℕ} → got a v ≡ bad n p → ⊥
+pub not-bad : {A : Type 0} {n p : ℕ} {a : A} {v : List ℕ} → got a v ≡ bad n p → ⊥
 not-bad h = not-got (sym h)
 
 this : {A : Type 0} {top k q n p : ℕ} → 0 < k → k ≤ 8 → q ≤ top → _≡_ {A = Reading A} (bad k q) (bad n p) → Fault top n p
 this {A} {top} {k} {q} {n} {p} s l i h = let a : k ≡ n = cc in let b : q ≡ p = cc in record { some = omega arith; known = omega arith; inside = omega arith }
 
 -- The fault of two readings is that of the first, or of the second.
-by-bad : {A B P : Type 0} (x : Reading A) (f : A → List ℕ → Reading B) {n p : ℕ} → next x f ≡ bad n p → (x ≡ bad n p → P) → ((a : A) (u : List ℕ) → f a u ≡ bad n p → P) → P
+pub by-bad : {A B P : Type 0} (x : Reading A) (f : A → List ℕ → Reading B) {n p : ℕ} → next x f ≡ bad n p → (x ≡ bad n p → P) → ((a : A) (u : List ℕ) → f a u ≡ bad n p → P) → P
 unfolding next
 by-bad (got a u) f h j k = k a u h
 by-bad (bad m q) f {n} {p} h j k = let a : m ≡ n = cc in let b : q ≡ p = cc in j (ap₂ bad a b)

@@ -9,3 +9,8 @@ pub mod Faults
 pub mod Heads
 pub mod Lists
 pub mod Parts
+pub mod Numbered
+pub mod Plug
+pub mod Join
+pub mod SheetBytes
+pub mod Answers

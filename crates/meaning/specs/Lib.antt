@@ -9,3 +9,7 @@ pub mod Encode
 pub mod Within
 pub mod Reading
 pub mod Parts
+pub mod Numbered
+pub mod Sheet
+pub mod SheetReading
+pub mod Answers
