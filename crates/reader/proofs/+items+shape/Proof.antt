@@ -84,13 +84,13 @@ module _ (t : ℕ) where
   items-returns : items-lts.Need-returns (items-calls t) (items-at t) items.Post items-Inv-loop items-μ-loop
   items-returns c =
       let n = c .before in let l = n .before .before in
-      (sym (l .before .before .loop .inv .2 ∙ items-bad _ _ _ _ _ _ _ _ (l .before .loop-test .taken) (sym (l .label-at .ensures) ∙ n .number .given .1)), tt)
+      (sym (l .before .before .loop .inv .2 ∙ items-bad _ _ _ _ _ _ _ (l .before .before .loop .due) (omega arith) (sym (l .label-at .ensures) ∙ n .number .given .1)), tt)
 
   items-returns-2 : items-lts.Need-returns-2 (items-calls t) (items-at t) items.Post items-Inv-loop items-μ-loop
   items-returns-2 c =
       let b = c .before in let a = b .before .before in let k = a .before .before in let n = k .before .before in let l = n .before .before in
       let h = rw (b .number2 .given .1) at (a .head-at .ensures) in
-      (sym (l .before .before .loop .inv .2 ∙ items-refused _ _ _ _ _ _ _ _ (l .before .loop-test .taken) (sym (l .label-at .ensures) ∙ n .next .given .1) (sym (k .shaped-kind .ensures) ∙ a .before .if1 .taken) h), tt)
+      (sym (l .before .before .loop .inv .2 ∙ items-refused _ _ _ _ _ _ _ (l .before .before .loop .due) (omega arith) (sym (l .label-at .ensures) ∙ n .next .given .1) (sym (k .shaped-kind .ensures) ∙ a .before .if1 .taken) h), tt)
 
   items-loop-again : items-lts.Need-loop-again (items-calls t) (items-at t) items.Post items-Inv-loop items-μ-loop
   items-loop-again c =
@@ -99,7 +99,7 @@ module _ (t : ℕ) where
         omega arith,
         omega arith,
         l .before .before .loop .inv .2
-            ∙ items-shaped _ _ _ _ _ _ _ _ (l .before .loop-test .taken) (sym (l .label-at .ensures) ∙ n .next .given .1) (sym (k .shaped-kind .ensures) ∙ a .before .if1 .taken) (h .0)
+            ∙ items-shaped _ _ _ _ _ _ _ (l .before .before .loop .due) (omega arith) (sym (l .label-at .ensures) ∙ n .next .given .1) (sym (k .shaped-kind .ensures) ∙ a .before .if1 .taken) (h .0)
             ∙ rw (← c .larger .ensures),
       )
 
@@ -107,7 +107,7 @@ module _ (t : ℕ) where
   items-returns-3 c =
       let b = c .before in let r = b .before .before in let a = r .before .before .before .before in let k = a .before .before in let n = k .before .before in let l = n .before .before in (
         sym (l .before .before .loop .inv .2
-            ∙ items-refused _ _ _ _ _ _ _ _ (l .before .loop-test .taken) (sym (l .label-at .ensures) ∙ n .next .given .1) (sym (k .shaped-kind .ensures) ∙ a .before .if1 .taken) (sym (r .shape .ensures .0) ∙ ap told (b .number3 .given .1))),
+            ∙ items-refused _ _ _ _ _ _ _ (l .before .before .loop .due) (omega arith) (sym (l .label-at .ensures) ∙ n .next .given .1) (sym (k .shaped-kind .ensures) ∙ a .before .if1 .taken) (sym (r .shape .ensures .0) ∙ ap told (b .number3 .given .1))),
         tt,
       )
 
@@ -118,7 +118,7 @@ module _ (t : ℕ) where
         omega arith,
         omega arith,
         l .before .before .loop .inv .2
-            ∙ items-shaped _ _ _ _ _ _ _ _ (l .before .loop-test .taken) (sym (l .label-at .ensures) ∙ n .next .given .1) (sym (k .shaped-kind .ensures) ∙ a .before .if1 .taken) (sym (r .shape .ensures .0) ∙ ap told (b .after .given .1))
+            ∙ items-shaped _ _ _ _ _ _ _ (l .before .before .loop .due) (omega arith) (sym (l .label-at .ensures) ∙ n .next .given .1) (sym (k .shaped-kind .ensures) ∙ a .before .if1 .taken) (sym (r .shape .ensures .0) ∙ ap told (b .after .given .1))
             ∙ rw (← c .larger2 .ensures),
       )
 
@@ -128,7 +128,7 @@ module _ (t : ℕ) where
         omega arith,
         omega arith,
         l .before .before .loop .inv .2
-            ∙ items-plain _ _ _ _ _ _ _ _ (l .before .loop-test .taken) (sym (l .label-at .ensures) ∙ n .next .given .1) (sym (k .shaped-kind .ensures) ∙ c .if1 .left),
+            ∙ items-plain _ _ _ _ _ _ _ (l .before .before .loop .due) (omega arith) (sym (l .label-at .ensures) ∙ n .next .given .1) (sym (k .shaped-kind .ensures) ∙ c .if1 .left),
       )
 
   items-returns-4 : items-lts.Need-returns-4 (items-calls t) (items-at t) items.Post items-Inv-loop items-μ-loop
