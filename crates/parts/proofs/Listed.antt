@@ -20,18 +20,16 @@ use Rattle.meaning.proofs.Complete.{leb-pos}
 use Rattle.meaning.proofs.Parts.{item-bytes}
 use Rattle.meaning.proofs.Lists.{list-of, child-is, textOf, name-is}
 use Rattle.reader.specs.declared.first.Kind as first
-use Rattle.reader.specs.declared.payload.Opening.the-variants.{Items}
-use Rattle.reader.specs.Walk.{openingAt}
 use Rattle.reader.specs.Walk as Walk
 use Rattle.parts.specs.declared.FoundChild.the-variants as child
 use Rattle.parts.specs.declared.FoundName.the-variants as name
 use Rattle.parts.specs.Said.{childSaid, nameSaid, toldChild}
-use Rattle.parts.specs.Steps.{pastName, pastItems, childFrom, nameFrom, childIn, nameIn}
+use Rattle.parts.specs.Steps.{pastName, pastItems, childFrom, nameFrom, listing, listAt, childIn, nameIn}
 use Rattle.parts.proofs.Places.{Stands, stands-length, stands-after, past-shape, leb-at, Of, of-bare, of-named, of-lone, AllOf, past-name, past-items}
 
 -- a shape whose payload is a list of items of a kind
 pub record Listed (t : Shape) (kind : first.Kind) : Type 0 where
-  pub opening : openingAt (encode t) (length (encode t)) 0 kind ≡ Items (length (encode t)) (listStart t) (length (items t))
+  pub list : listAt (encode t) kind ≡ listing (listStart t) (length (items t))
   pub all : AllOf kind (items t)
   pub children : length (children t) ≡ (Walk.shaped kind ⇒ length (items t) ∣ λ _. 0)
   pub names : length (names t) ≡ (Walk.named kind ⇒ length (items t) ∣ λ _. 0)
@@ -76,9 +74,9 @@ name-at s at kind i x (of-named t c n p b) q h = rw (leb-at s at (length t) (t +
 name-at s at kind i x (of-lone t n p b) q h = rw (leb-at s at (length t) (t ++ x) b (text-inside s at t x h) (rw append-assoc at h))
 
 module _ (t : Shape) (kind : first.Kind) (l : Listed t kind) (k : ℕ) where
-  pub child-listed : childIn (encode t) kind k (openingAt (encode t) (length (encode t)) 0 kind) ≡ childSaid (got t []) k
+  pub child-listed : childIn (encode t) kind k (listAt (encode t) kind) ≡ childSaid (got t []) k
   unfolding childIn childOf
-  child-listed = rw (l .opening, l .children) (go (Walk.shaped kind) refl)
+  child-listed = rw (l .list, l .children) (go (Walk.shaped kind) refl)
     where
       found : k < length (items t) → Walk.shaped kind ≡ true → childFrom (encode t) (pastName (encode t) (pastItems (encode t) kind k (listStart t)) kind) ≡ toldChild (childOf t k)
       found h q =
@@ -93,9 +91,9 @@ module _ (t : Shape) (kind : first.Kind) (l : Listed t kind) (k : ℕ) where
       go true q = rw q (both (λ a b. a ≡ b) (ltb k (length (items t))) _ _ _ _ (λ p. found (ltb-true _ _ p) q) (λ p. refl))
       go false q = rw (q, le-ltb k 0 (omega arith))
 
-  pub name-listed : nameIn (encode t) kind k (openingAt (encode t) (length (encode t)) 0 kind) ≡ nameSaid (got t []) k
+  pub name-listed : nameIn (encode t) kind k (listAt (encode t) kind) ≡ nameSaid (got t []) k
   unfolding nameIn
-  name-listed = rw (l .opening, l .names) (go (Walk.named kind) refl)
+  name-listed = rw (l .list, l .names) (go (Walk.named kind) refl)
     where
       found : k < length (items t) → Walk.named kind ≡ true → nameFrom (encode t) (pastItems (encode t) kind k (listStart t)) ≡ name.Text (namePlace t k) (length (nameText t k))
       found h q =

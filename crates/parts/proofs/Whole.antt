@@ -20,32 +20,21 @@ use Rattle.meaning.specs.Encode.{sized, asPrim, arrayBytes, mapBytes, blankByte
 use Rattle.meaning.specs.Reading.{got, hasShort}
 use Rattle.meaning.specs.Parts.{bare, fieldItems, parameterItems, textItems, items, listStart, children, names, childOf}
 use Rattle.meaning.proofs.Lists.{fields-count, parameters-count, texts-count, field-shapes, field-names, parameter-shapes}
-use Rattle.meaning.proofs.Sound.{long-array, long-map}
-use Rattle.meaning.proofs.Complete.{count-le, texts-le, two-value, class-prim, class-array, class-map, class-blank, class-kind, code-small}
+use Rattle.meaning.proofs.Complete.{count-le, texts-le, class-prim, class-array, class-map, class-blank, class-kind, code-small}
+use Rattle.leaves.specs.Leb.{lebAt}
 use Rattle.reader.specs.First.{kindSaid}
 use Rattle.reader.specs.declared.first.Kind.the-variants.{Array, Map, Record, Function, Symbol, Variable}
-use Rattle.reader.specs.declared.first.Kind as first
-use Rattle.reader.specs.declared.payload.Opening.{Opening}
-use Rattle.reader.specs.declared.payload.Opening.the-variants.{Items, Closed}
-use Rattle.reader.specs.Walk.{countedBy, countedAt, listOf, openingAt}
+use Rattle.parts.specs.declared.Listing.{Listing}
 use Rattle.parts.specs.declared.FoundChild.the-variants as child
 use Rattle.parts.specs.declared.FoundName.the-variants as name
 use Rattle.parts.specs.Said.{childSaid, nameSaid}
-use Rattle.parts.specs.Steps.{childIn, nameIn, packedChild, childBy, nameWith, childSteps, nameSteps}
+use Rattle.parts.specs.Steps.{listing, countedBy, listAt, childIn, nameIn, packedChild, childBy, nameWith, childSteps, nameSteps}
 use Rattle.parts.proofs.Places.{leb-at, of-bare, of-named, of-lone, AllOf}
 use Rattle.parts.proofs.Listed.{Listed, child-listed, name-listed}
 
--- the payload's list is opened where it starts
-opened : (k : Meant.Kind) (q : List ℕ) (kind : first.Kind) → openingAt (sized k q) (length (sized k q)) 0 kind ≡ listOf (sized k q) 0 3 (length (sized k q)) kind
-unfolding openingAt
-opened k q kind =
-    let n : ℕ = length (sized k q) in
-    let z : 3 + length q ≡ n = omega arith in
-    rw (two-value (length q), le-ltb (n - 0) 3 (omega arith), le-ltb (n - 0 - 3) (length q) (omega arith), z)
-
+-- a count is read, and the list starts after it
 counted : (k : Meant.Kind) (n more m : ℕ) (y : List ℕ) → n < 16384 → n + more ≡ m
-    → countedAt (sized k (leb128 n ++ y)) (length (sized k (leb128 n ++ y))) 3 more ≡ Items (length (sized k (leb128 n ++ y))) (3 + length (leb128 n)) m
-unfolding countedAt countedBy
+    → countedBy more (lebAt (sized k (leb128 n ++ y)) (length (sized k (leb128 n ++ y))) 3) ≡ listing (3 + length (leb128 n)) m
 counted k n more m y h e = rw (leb-at (sized k (leb128 n ++ y)) 3 n y h (omega arith) refl, e)
 
 fields-all : (f : Tree fields) → length (encode f) < 16384 → AllOf Record (fieldItems f)
@@ -65,9 +54,9 @@ texts-all (t ∷ ts) h = let k = simp length-append at h in (of-lone t refl refl
 
 -- each shape that has a list in its payload
 array-listed : (s : Shape) → hasShort (arrayOf s) ≡ false → Listed (arrayOf s) Array
-unfolding items listStart children names encode listOf hasShort arrayBytes
+unfolding items listStart children names encode listAt hasShort arrayBytes
 array-listed s h = record {
-  opening = rw (long-array (asPrim s) (encode s) h) (opened Meant.array (encode s) Array);
+  list = refl;
   all = (of-bare s refl refl, tt);
   children = refl;
   names = refl;
@@ -75,9 +64,9 @@ array-listed s h = record {
 }
 
 map-listed : (s t : Shape) → hasShort (mapOf s t) ≡ false → Listed (mapOf s t) Map
-unfolding items listStart children names encode listOf hasShort
+unfolding items listStart children names encode listAt hasShort
 map-listed s t h = record {
-  opening = rw (long-map (asPrim s) (asPrim t) (encode s ++ encode t) h) (opened Meant.map (encode s ++ encode t) Map);
+  list = refl;
   all = (of-bare s refl refl, (of-bare t refl refl, tt));
   children = refl;
   names = refl;
@@ -85,11 +74,11 @@ map-listed s t h = record {
 }
 
 record-listed : (f : Tree fields) → length (encode (recordOf f)) ≤ 16384 → Listed (recordOf f) Record
-unfolding items listStart children names encode listOf hasShort
+unfolding items listStart children names encode listAt hasShort
 record-listed f h =
     let k = simp length-append at h in let c = count-le f in let z : count f + 0 ≡ length (fieldItems f) = omega (arith, fields-count f) in
     record {
-      opening = opened Meant.rec (leb128 (count f) ++ encode f) Record ∙ counted Meant.rec (count f) 0 (length (fieldItems f)) (encode f) (omega arith) z;
+      list = counted Meant.rec (count f) 0 (length (fieldItems f)) (encode f) (omega arith) z;
       all = fields-all f (omega arith);
       children = field-shapes f;
       names = field-names f;
@@ -97,11 +86,11 @@ record-listed f h =
     }
 
 function-listed : (p : Tree parameters) (r : Shape) → length (encode (functionOf p r)) ≤ 16384 → Listed (functionOf p r) Function
-unfolding items listStart children names encode listOf hasShort
+unfolding items listStart children names encode listAt hasShort
 function-listed p r h =
     let k = simp length-append at h in let c = count-le p in
     record {
-      opening = opened Meant.function (leb128 (count p) ++ (encode p ++ encode r)) Function ∙ counted Meant.function (count p) 1 (length (parameterItems p ++ (bare r ∷ []))) (encode p ++ encode r) (omega arith) (sym (parameters-count p r));
+      list = counted Meant.function (count p) 1 (length (parameterItems p ++ (bare r ∷ []))) (encode p ++ encode r) (omega arith) (sym (parameters-count p r));
       all = parameters-all p r;
       children = parameter-shapes p r;
       names = refl;
@@ -109,11 +98,11 @@ function-listed p r h =
     }
 
 symbol-listed : (ts : List Text) → length (encode (symbolOf ts)) ≤ 16384 → Listed (symbolOf ts) Symbol
-unfolding items listStart children names encode listOf hasShort
+unfolding items listStart children names encode listAt hasShort
 symbol-listed ts h =
     let k = simp length-append at h in let c = texts-le ts in let z : length ts + 0 ≡ length (textItems ts) = omega (arith, texts-count ts) in
     record {
-      opening = opened Meant.symbol (leb128 (length ts) ++ textsBytes ts) Symbol ∙ counted Meant.symbol (length ts) 0 (length (textItems ts)) (textsBytes ts) (omega arith) z;
+      list = counted Meant.symbol (length ts) 0 (length (textItems ts)) (textsBytes ts) (omega arith) z;
       all = texts-all ts (omega arith);
       children = refl;
       names = sym (texts-count ts);
@@ -138,23 +127,21 @@ low-name b k true t c = rw c
 low-name b k false t c = rw c
 
 -- a shape with a payload
-long-child : (s : List ℕ) (kind : Meant.Kind) (q : List ℕ) (k : ℕ) → s ≡ sized kind q → childSteps s k ≡ childIn s (kindSaid kind) k (openingAt s (length s) 0 (kindSaid kind))
+long-child : (s : List ℕ) (kind : Meant.Kind) (q : List ℕ) (k : ℕ) → s ≡ sized kind q → childSteps s k ≡ childIn s (kindSaid kind) k (listAt s (kindSaid kind))
 unfolding childSteps childBy
 long-child s kind q k e = rw (e, lt-leb (length (sized kind q)) 0 (omega arith), class-kind kind)
 
-long-name : (s : List ℕ) (kind : Meant.Kind) (q : List ℕ) (k : ℕ) → s ≡ sized kind q → nameSteps s k ≡ nameIn s (kindSaid kind) k (openingAt s (length s) 0 (kindSaid kind))
+long-name : (s : List ℕ) (kind : Meant.Kind) (q : List ℕ) (k : ℕ) → s ≡ sized kind q → nameSteps s k ≡ nameIn s (kindSaid kind) k (listAt s (kindSaid kind))
 unfolding nameSteps nameWith
 long-name s kind q k e = rw (e, lt-leb (length (sized kind q)) 0 (omega arith), class-kind kind)
 
-blank-child : (s : List ℕ) (k : ℕ) (o : Opening) → childIn s Variable k o ≡ child.Refused noSuchPart 0
+blank-child : (s : List ℕ) (k : ℕ) (l : Listing) → childIn s Variable k l ≡ child.Refused noSuchPart 0
 unfolding childIn
-blank-child s k (Items stop from count) = refl
-blank-child s k (Closed number place) = refl
+blank-child s k l = refl
 
-blank-name : (s : List ℕ) (k : ℕ) (o : Opening) → nameIn s Variable k o ≡ name.Refused noSuchPart 0
+blank-name : (s : List ℕ) (k : ℕ) (l : Listing) → nameIn s Variable k l ≡ name.Refused noSuchPart 0
 unfolding nameIn
-blank-name s k (Items stop from count) = refl
-blank-name s k (Closed number place) = refl
+blank-name s k l = refl
 
 -- packed bytes
 packed-array : (s : Shape) (p : Primitive) (k : ℕ) → asPrim s ≡ some p → childSteps (arrayByte (code p) ∷ []) k ≡ childSaid (got (arrayOf s) []) k
@@ -186,7 +173,7 @@ child-steps (blank n) h k = go (ltb n shortBlanks) refl ∙ no-child (blank n) k
     go true p = rw p (low-child n k (blank n) (class-blank n (ltb-true _ _ p)) (omega (arith, ltb-true n shortBlanks p)))
     go false p =
         let s : List ℕ = sized Meant.variable (twoBytes n) in
-        rw p (long-child s Meant.variable (twoBytes n) k refl ∙ blank-child s k (openingAt s (length s) 0 Variable))
+        rw p (long-child s Meant.variable (twoBytes n) k refl ∙ blank-child s k (listAt s Variable))
 child-steps (arrayOf s) h k = go (asPrim s) refl
   where
     go : (o : Option Primitive) → asPrim s ≡ o → childSteps (arrayBytes (asPrim s) (encode s)) k ≡ childSaid (got (arrayOf s) []) k
@@ -211,7 +198,7 @@ name-steps (blank n) h k = go (ltb n shortBlanks) refl ∙ no-name (blank n) k r
     go true p = rw p (low-name n k true (blank n) (class-blank n (ltb-true _ _ p)))
     go false p =
         let s : List ℕ = sized Meant.variable (twoBytes n) in
-        rw p (long-name s Meant.variable (twoBytes n) k refl ∙ blank-name s k (openingAt s (length s) 0 Variable))
+        rw p (long-name s Meant.variable (twoBytes n) k refl ∙ blank-name s k (listAt s Variable))
 name-steps (arrayOf s) h k = go (asPrim s) refl
   where
     go : (o : Option Primitive) → asPrim s ≡ o → nameSteps (arrayBytes (asPrim s) (encode s)) k ≡ nameSaid (got (arrayOf s) []) k

@@ -11,12 +11,12 @@ use Rattle.leaves.specs.Leb.{lebAt}
 use Rattle.leaves.specs.declared.Leb.{Leb}
 use Rattle.leaves.specs.declared.Leb.the-variants.{Number, Fault}
 use Rattle.reader.specs.First.{firstSaid}
-use Rattle.reader.specs.Walk.{named, shaped, sizeAt, openingAt}
+use Rattle.reader.specs.Walk.{named, shaped, sizeAt}
 use Rattle.reader.specs.declared.first.Kind.{Kind}
+use Rattle.reader.specs.declared.first.Kind.the-variants.{Array, Map, Record, Function, Symbol, Variable}
 use Rattle.reader.specs.declared.first.First.{First}
 use Rattle.reader.specs.declared.first.First.the-variants.{Unassigned, Short, Long}
-use Rattle.reader.specs.declared.payload.Opening.{Opening}
-use Rattle.reader.specs.declared.payload.Opening.the-variants.{Items, Closed}
+use Rattle.parts.specs.declared.Listing.{Listing}
 use Rattle.parts.specs.declared.FoundChild.{FoundChild}
 use Rattle.parts.specs.declared.FoundChild.the-variants as child
 use Rattle.parts.specs.declared.FoundName.{FoundName}
@@ -69,17 +69,31 @@ nameBy (Number size start) = name.Text start size
 unfoldable pub nameFrom : List ℕ → ℕ → FoundName
 nameFrom s at = nameBy (lebAt s (length s) at)
 
+-- where the list of the root's payload starts, after the head and any count, and how many items it has
+abbrev pub listing : ℕ → ℕ → Listing
+listing from count = record { from = from; count = count }
+
+abbrev pub countedBy : ℕ → Leb → Listing
+countedBy more (Fault number) = listing 3 0
+countedBy more (Number count next) = listing next (count + more)
+
+unfoldable pub listAt : List ℕ → Kind → Listing
+listAt s Array = listing 3 1
+listAt s Map = listing 3 2
+listAt s Record = countedBy 0 (lebAt s (length s) 3)
+listAt s Function = countedBy 1 (lebAt s (length s) 3)
+listAt s Symbol = countedBy 0 (lebAt s (length s) 3)
+listAt s Variable = listing 3 0
+
 -- child k and name k of a shape with a payload
-unfoldable pub childIn : List ℕ → Kind → ℕ → Opening → FoundChild
-childIn s kind k (Closed number place) = child.Refused noSuchPart 0
-childIn s kind k (Items stop from count) =
-    shaped kind ⇒ (ltb k count ⇒ childFrom s (pastName s (pastItems s kind k from) kind) ∣ λ _. child.Refused noSuchPart count) ∣ λ _.
+unfoldable pub childIn : List ℕ → Kind → ℕ → Listing → FoundChild
+childIn s kind k list =
+    shaped kind ⇒ (ltb k (list .count) ⇒ childFrom s (pastName s (pastItems s kind k (list .from)) kind) ∣ λ _. child.Refused noSuchPart (list .count)) ∣ λ _.
     child.Refused noSuchPart 0
 
-unfoldable pub nameIn : List ℕ → Kind → ℕ → Opening → FoundName
-nameIn s kind k (Closed number place) = name.Refused noSuchPart 0
-nameIn s kind k (Items stop from count) =
-    named kind ⇒ (ltb k count ⇒ nameFrom s (pastItems s kind k from) ∣ λ _. name.Refused noSuchPart count) ∣ λ _.
+unfoldable pub nameIn : List ℕ → Kind → ℕ → Listing → FoundName
+nameIn s kind k list =
+    named kind ⇒ (ltb k (list .count) ⇒ nameFrom s (pastItems s kind k (list .from)) ∣ λ _. name.Refused noSuchPart (list .count)) ∣ λ _.
     name.Refused noSuchPart 0
 
 -- child k of a packed byte
@@ -95,12 +109,12 @@ packedChild b k =
 unfoldable pub childBy : List ℕ → ℕ → First → FoundChild
 childBy s k Unassigned = child.Refused noSuchPart 0
 childBy s k (Short levels) = packedChild (getD s 0 0) k
-childBy s k (Long kind) = childIn s kind k (openingAt s (length s) 0 kind)
+childBy s k (Long kind) = childIn s kind k (listAt s kind)
 
 unfoldable pub nameWith : List ℕ → ℕ → First → FoundName
 nameWith s k Unassigned = name.Refused noSuchPart 0
 nameWith s k (Short levels) = name.Refused noSuchPart 0
-nameWith s k (Long kind) = nameIn s kind k (openingAt s (length s) 0 kind)
+nameWith s k (Long kind) = nameIn s kind k (listAt s kind)
 
 unfoldable pub childSteps : List ℕ → ℕ → FoundChild
 childSteps s k =

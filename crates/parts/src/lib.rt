@@ -7,13 +7,13 @@ use reader::first::First;
 use reader::first::Kind;
 use reader::first::PACKED;
 use reader::first::PACKED_MAPS;
-use reader::payload::Opening;
 ghost use mathlib.Core.Path.{_≡_};
 ghost use Prim.Native.Nat.{_≤_};
 ghost use lib.ListN.{length};
 ghost use Rattle.meaning.specs.Reading.{reading};
+ghost use Rattle.leaves.specs.Leb.{lebAt};
 ghost use Rattle.parts.specs.Said.{childSaid, nameSaid};
-ghost use Rattle.parts.specs.Steps.{pastLong, pastShape, pastText, pastName, pastItem, pastItems, childFrom, nameFrom, childIn, nameIn, packedChild, childSteps, nameSteps};
+ghost use Rattle.parts.specs.Steps.{pastLong, pastShape, pastText, pastName, pastItem, pastItems, childFrom, nameFrom, countedBy, listAt, childIn, nameIn, packedChild, childSteps, nameSteps};
 
 // Child k: place and length in the parent, or a primitive's number where the parent is packed, or a refusal.
 pub enum FoundChild {
@@ -138,74 +138,82 @@ fn name_from(s: &[u8], at: usize) -> FoundName
     }
 }
 
-// Child k of a shape with a payload.
-fn child_in(s: &[u8], kind: Kind, k: u64, opening: Opening) -> FoundChild
-    ensures { λ r. ⌜ r ≡ childIn (now (s .entry)) kind k opening ⌝ }
+// The list of the root's payload: where it starts and how many items it has.
+pub struct Listing {
+    pub from: usize,
+    pub count: usize,
+}
+
+// A list with its count before it; a Function's return is one item more.
+fn counted_list(s: &[u8], more: usize) -> Listing
+    requires { ⌜ more ≤ 1 ⌝ }
+    ensures { λ r. ⌜ r ≡ countedBy more (lebAt (now (s .entry)) (length (now (s .entry))) 3) ⌝ }
 {
-    match opening {
-        Opening::Closed {
-            number: _,
-            place: _,
-        } => FoundChild::Refused {
+    match leaves::leb128(s, s.len(), 3) {
+        Leb::Fault { number: _ } => Listing { from: 3, count: 0 },
+        Leb::Number { value, next } => Listing {
+            from: next,
+            count: value + more,
+        },
+    }
+}
+
+// The list of an accepted encoding's payload, by its kind.
+fn list_at(s: &[u8], kind: Kind) -> Listing
+    ensures { λ r. ⌜ r ≡ listAt (now (s .entry)) kind ⌝ }
+{
+    match kind {
+        Kind::Array => Listing { from: 3, count: 1 },
+        Kind::Map => Listing { from: 3, count: 2 },
+        Kind::Record => counted_list(s, 0),
+        Kind::Function => counted_list(s, 1),
+        Kind::Symbol => counted_list(s, 0),
+        Kind::Variable => Listing { from: 3, count: 0 },
+    }
+}
+
+// Child k of a shape with a payload.
+fn child_in(s: &[u8], kind: Kind, k: u64, list: Listing) -> FoundChild
+    ensures { λ r. ⌜ r ≡ childIn (now (s .entry)) kind k list ⌝ }
+{
+    let from = list.from;
+    let count = list.count;
+    if reader::payload::shaped_kind(kind) {
+        if k < count as u64 {
+            child_from(s, past_name(s, past_items(s, kind, k, from), kind))
+        } else {
+            FoundChild::Refused {
+                number: NO_SUCH_PART,
+                place: count,
+            }
+        }
+    } else {
+        FoundChild::Refused {
             number: NO_SUCH_PART,
             place: 0,
-        },
-        Opening::Items {
-            stop: _,
-            from,
-            count,
-        } => {
-            if reader::payload::shaped_kind(kind) {
-                if k < count as u64 {
-                    child_from(s, past_name(s, past_items(s, kind, k, from), kind))
-                } else {
-                    FoundChild::Refused {
-                        number: NO_SUCH_PART,
-                        place: count,
-                    }
-                }
-            } else {
-                FoundChild::Refused {
-                    number: NO_SUCH_PART,
-                    place: 0,
-                }
-            }
         }
     }
 }
 
 // Name k of a shape with a payload.
-fn name_in(s: &[u8], kind: Kind, k: u64, opening: Opening) -> FoundName
-    ensures { λ r. ⌜ r ≡ nameIn (now (s .entry)) kind k opening ⌝ }
+fn name_in(s: &[u8], kind: Kind, k: u64, list: Listing) -> FoundName
+    ensures { λ r. ⌜ r ≡ nameIn (now (s .entry)) kind k list ⌝ }
 {
-    match opening {
-        Opening::Closed {
-            number: _,
-            place: _,
-        } => FoundName::Refused {
+    let from = list.from;
+    let count = list.count;
+    if reader::payload::named_kind(kind) {
+        if k < count as u64 {
+            name_from(s, past_items(s, kind, k, from))
+        } else {
+            FoundName::Refused {
+                number: NO_SUCH_PART,
+                place: count,
+            }
+        }
+    } else {
+        FoundName::Refused {
             number: NO_SUCH_PART,
             place: 0,
-        },
-        Opening::Items {
-            stop: _,
-            from,
-            count,
-        } => {
-            if reader::payload::named_kind(kind) {
-                if k < count as u64 {
-                    name_from(s, past_items(s, kind, k, from))
-                } else {
-                    FoundName::Refused {
-                        number: NO_SUCH_PART,
-                        place: count,
-                    }
-                }
-            } else {
-                FoundName::Refused {
-                    number: NO_SUCH_PART,
-                    place: 0,
-                }
-            }
         }
     }
 }
@@ -263,12 +271,7 @@ fn child_of(s: &[u8], k: u64) -> FoundChild
             place: 0,
         },
         First::Short { levels: _ } => packed_child(s[0], k),
-        First::Long { kind } => child_in(
-            s,
-            kind,
-            k,
-            reader::payload::opening_at(s, s.len(), 0, kind),
-        ),
+        First::Long { kind } => child_in(s, kind, k, list_at(s, kind)),
     }
 }
 
@@ -291,12 +294,7 @@ fn name_of(s: &[u8], k: u64) -> FoundName
             number: NO_SUCH_PART,
             place: 0,
         },
-        First::Long { kind } => name_in(
-            s,
-            kind,
-            k,
-            reader::payload::opening_at(s, s.len(), 0, kind),
-        ),
+        First::Long { kind } => name_in(s, kind, k, list_at(s, kind)),
     }
 }
 

@@ -21,7 +21,7 @@ unfolding childSteps childBy
 returns-4 c =
     let o = c .before in
     let b = o .before .before in
-    rw (← b .before .before .first-of .ensures, b .kind .given .1, ← o .opening-at .ensures .0, ← c .child-in .ensures) (search tests)
+    rw (← b .before .before .first-of .ensures, b .kind .given .1, ← o .list-at .ensures, ← c .child-in .ensures) (search tests)
 
 pub child-of-spec : {M : Type 1} → statement M
 unfolding childSteps

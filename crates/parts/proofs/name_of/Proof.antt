@@ -19,7 +19,7 @@ unfolding nameSteps nameWith
 returns-4 c =
     let o = c .before in
     let b = o .before .before in
-    rw (← b .before .before .first-of .ensures, b .kind .given .1, ← o .opening-at .ensures .0, ← c .name-in .ensures) (search tests)
+    rw (← b .before .before .first-of .ensures, b .kind .given .1, ← o .list-at .ensures, ← c .name-in .ensures) (search tests)
 
 pub name-of-spec : {M : Type 1} → statement M
 unfolding nameSteps
