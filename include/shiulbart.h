@@ -113,6 +113,19 @@ shiulbart_answer shiulbart_child(const uint8_t *bytes, size_t length, uint64_t k
  */
 shiulbart_answer shiulbart_name(const uint8_t *bytes, size_t length, uint64_t k);
 
+/*
+ * Checks a fill sheet: a count of up to 32 entries, the entries, a count of up to 16,384 bytes, and
+ * so many bytes, which are the entries' encodings one after the other. An entry is a blank's number
+ * and the length of its encoding, 1 to 2,048; the numbers rise. Counts, numbers and lengths take two
+ * bytes each, low first. If the sheet is sound, `length` is how many bytes the encodings are and
+ * `extra` is how many entries there are; both are 0 for the empty sheet, four bytes of 0. Otherwise
+ * refused with 13, at the first of these that applies: the entry count is missing or over 32, or the
+ * entries pass the end (0); an entry's number does not rise or its length is bad (the entry); the
+ * second count is missing, over 16,384 or not the sum of the lengths, or its bytes pass the end (that
+ * count's place); bytes are left over (the first); shiulbart_read refuses an encoding (its entry).
+ */
+shiulbart_answer shiulbart_sheet(const uint8_t *sheet, size_t length);
+
 #ifdef __cplusplus
 }
 #endif

@@ -1,5 +1,5 @@
-/* Calls the archive from C through include/shiulbart.h: M1 to M11 of the bench card, and children
-   and names. tests/host.sh compiles, links and runs it. Its last line is 'N passed, M failed'. */
+/* Calls the archive from C through include/shiulbart.h: M1 to M11 of the bench card, children and
+   names, and sheets. tests/host.sh compiles, links and runs it. Its last line is 'N passed, M failed'. */
 #include "shiulbart.h"
 
 #include <stdio.h>
@@ -64,8 +64,15 @@ int main(void)
     static const uint8_t m11[] = {0xA0};
     static const uint8_t symbol[] = {0x44, 0x06, 0x00, 0x03, 0x00, 0x02, 0xC3, 0xA9, 0x00};
     static const uint8_t too_long[2049] = {0};
+    static const uint8_t m13_sheet[] = {0x01, 0x00, 0x00, 0x00, 0x01, 0x00, 0x01, 0x00, 0x20};
+    static const uint8_t m14_sheet[]
+        = {0x02, 0x00, 0x00, 0x00, 0x01, 0x00, 0x01, 0x00, 0x01, 0x00, 0x02, 0x00, 0x20, 0x20};
+    static const uint8_t empty_sheet[] = {0x00, 0x00, 0x00, 0x00};
+    static const uint8_t equal_numbers[]
+        = {0x02, 0x00, 0x01, 0x00, 0x01, 0x00, 0x01, 0x00, 0x01, 0x00, 0x02, 0x00, 0x20, 0x20};
     const uint64_t two_to_32 = (uint64_t)1 << 32;
     const uint32_t none = SHIULBART_NO_SUCH_PART;
+    const uint32_t broken = SHIULBART_SHEET_BROKEN;
 
     accepted("M1", m1, sizeof m1, 1);
     accepted("M2", m2, sizeof m2, 2);
@@ -110,6 +117,16 @@ int main(void)
     expect("M9, name 0", shiulbart_name(m9, sizeof m9, 0), refusal(none, 0));
     expect("M10, name 0", shiulbart_name(m10, sizeof m10, 0), refusal(SHIULBART_LEB128_WRONG, 3));
     expect("M7, name 0, a null pointer", shiulbart_name(NULL, 0, 0), refusal(SHIULBART_CUT_SHORT, 0));
+
+    expect("M13's sheet", shiulbart_sheet(m13_sheet, sizeof m13_sheet), answered(0, 1, 1));
+    expect("M14's sheet", shiulbart_sheet(m14_sheet, sizeof m14_sheet), answered(0, 2, 2));
+    expect("the empty sheet", shiulbart_sheet(empty_sheet, sizeof empty_sheet), answered(0, 0, 0));
+    expect("no sheet", shiulbart_sheet(m13_sheet, 0), refusal(broken, 0));
+    expect("no sheet, a null pointer", shiulbart_sheet(NULL, 0), refusal(broken, 0));
+    expect("a sheet of equal numbers", shiulbart_sheet(equal_numbers, sizeof equal_numbers),
+        refusal(broken, 1));
+    expect("M13's sheet, cut", shiulbart_sheet(m13_sheet, sizeof m13_sheet - 1), refusal(broken, 6));
+    expect("the empty sheet and more", shiulbart_sheet(too_long, sizeof too_long), refusal(broken, 4));
 
     printf("%u passed, %u failed\n", passed, failed);
     return failed > 0;

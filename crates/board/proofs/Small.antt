@@ -2,24 +2,27 @@
 --     exported           of the reader
 --     exported-child     of a child
 --     exported-name      of a name
+--     exported-sheet     of a sheet
 -- Assumes nothing.
-use Prim.Native.Nat.{ℕ, _+_, _≤_, _<_}
+use Prim.Native.Nat.{ℕ, _≤_, _<_}
 use mathlib.Core.Path.{_≡_, refl}
 use mathlib.Core.List.{List}
 use native.Mathlib.Omega.{arith}
 use lib.Dec.{ltb}
 use lib.ListN.{length, getD}
 use borrow.Author.Tests.{ltb-true}
-use Rattle.meaning.specs.Limits.{maxBytes}
-use Rattle.meaning.specs.Refusals.{noSuchPart}
+use Rattle.meaning.specs.Refusals.{sheetBroken, noSuchPart}
 use Rattle.meaning.specs.Shape.{Shape}
 use Rattle.meaning.specs.Within.{Within}
 use Rattle.meaning.specs.Reading.{Reading, got, bad, hasShort, reading}
+use Rattle.meaning.specs.Sheet.{Sheet}
+use Rattle.meaning.specs.SheetReading.{readSheet}
 use Rattle.meaning.specs.Parts.{children, childOf, names}
 use Rattle.meaning.proofs.Rules.{rule, both}
 use Rattle.meaning.proofs.Window.{bytes-by-index}
 use Rattle.meaning.proofs.Laws.{encode-reading}
 use Rattle.meaning.proofs.Faults.{refusal-small}
+use Rattle.meaning.proofs.SheetBytes.{longest, sheet-read, sheet-refusal}
 use Rattle.meaning.proofs.Parts.{children-few, names-few, child-inside, packed-number, name-inside}
 use Rattle.reader.specs.declared.Judgement.{Judgement}
 use Rattle.reader.specs.declared.Judgement.the-variants.{Accepted, Refused}
@@ -29,8 +32,11 @@ use Rattle.parts.specs.declared.FoundChild.the-variants as child
 use Rattle.parts.specs.declared.FoundName.{FoundName}
 use Rattle.parts.specs.declared.FoundName.the-variants as name
 use Rattle.parts.specs.Said.{toldChild, childSaid, nameSaid}
+use Rattle.sheets.specs.declared.Checked.{Checked}
+use Rattle.sheets.specs.declared.Checked.the-variants as sheet
+use Rattle.sheets.specs.Said.{checked}
 use Rattle.board.specs.declared.Answer.{Answer}
-use Rattle.board.specs.Answers.{answered, refused, readAnswer, childAnswered, childAnswer, nameAnswer}
+use Rattle.board.specs.Answers.{answered, refused, readAnswer, childAnswered, childAnswer, nameAnswer, sheetAnswer}
 
 -- an answer that fits, and is the one to be given
 pub record Given (a b : Answer) : Type 0 where
@@ -40,16 +46,12 @@ pub record Given (a b : Answer) : Type 0 where
   pub extra : a .extra < 4294967296
   pub is : a ≡ b
 
--- the largest place, length and count that a call says: a child more than bytes
-abbrev most : ℕ
-most = 1 + maxBytes
-
--- An answer of small numbers fits.
-given : (a : Answer) → a .number ≤ noSuchPart → a .place ≤ most → a .length ≤ most → a .extra ≤ most → Given a a
+-- An answer fits whose number is one of the paper's, and whose others are no larger than the longest sheet is long.
+given : (a : Answer) → a .number ≤ noSuchPart → a .place ≤ longest → a .length ≤ longest → a .extra ≤ longest → Given a a
 given a n p l e = record { number = omega arith; place = omega arith; length = omega arith; extra = omega arith; is = refl }
 
 -- So does a refusal.
-given-refusal : (number place : ℕ) → number ≤ noSuchPart → place ≤ most → Given (refused number place) (refused number place)
+given-refusal : (number place : ℕ) → number ≤ noSuchPart → place ≤ longest → Given (refused number place) (refused number place)
 given-refusal number place n p = given (refused number place) n p (omega arith) (omega arith)
 
 -- what the calls below say, as the exported calls put it
@@ -66,9 +68,13 @@ abbrev namePut : FoundName → Answer
 namePut (name.Text place length) = answered place length 0
 namePut (name.Refused number place) = refused number place
 
+abbrev sheetPut : Checked → Answer
+sheetPut (sheet.Sound entries bytes) = answered 0 bytes entries
+sheetPut (sheet.Broken place) = refused sheetBroken place
+
 module _ (s : List ℕ) (bytes : (i : ℕ) → getD s i 0 < 256) where
   -- An input is a shape within the limits, or is refused with small numbers.
-  by-reading : (P : Reading Shape → Type 0) → ((t : Shape) (left : List ℕ) → Within t → P (got t left)) → ((number place : ℕ) → number ≤ noSuchPart → place ≤ most → P (bad number place)) → P (reading s)
+  by-reading : (P : Reading Shape → Type 0) → ((t : Shape) (left : List ℕ) → Within t → P (got t left)) → ((number place : ℕ) → number ≤ noSuchPart → place ≤ longest → P (bad number place)) → P (reading s)
   by-reading P h k = go (reading s) refl
     where
       go : (r : Reading Shape) → reading s ≡ r → P r
@@ -102,3 +108,11 @@ module _ (s : List ℕ) (bytes : (i : ℕ) → getD s i 0 < 256) where
           both (λ a b. Given (namePut a) b) (ltb k (length (names t))) _ _ _ _
           (λ p. let i = name-inside t k (ltb-true _ _ p) in given _ (omega arith) (omega (arith, w .short)) (omega (arith, w .short)) (omega arith))
           (λ _. given-refusal _ _ (omega arith) (omega (arith, names-few t, w .short)))
+
+  -- What is said of it as a sheet is what `shiulbart_sheet` says.
+  pub exported-sheet : Given (sheetPut (checked (readSheet sheetBroken s))) (sheetAnswer (readSheet sheetBroken s))
+  exported-sheet = go (readSheet sheetBroken s) refl
+    where
+      go : (r : Reading Sheet) → readSheet sheetBroken s ≡ r → Given (sheetPut (checked r)) (sheetAnswer r)
+      go (got σ left) p = let w = sheet-read sheetBroken s σ left (bytes-by-index s bytes) p .1 in given _ (omega arith) (omega arith) (omega (arith, w .short)) (omega (arith, w .few))
+      go (bad number place) p = let f = sheet-refusal sheetBroken s number place p in rw (f .0) (given-refusal _ _ (omega arith) (omega arith))

@@ -8,6 +8,7 @@ use Rattle.meaning.specs.Refusals.{noSuchPart}
 use Rattle.meaning.specs.Shape.{Shape, depth}
 use Rattle.meaning.specs.Encode.{encode}
 use Rattle.meaning.specs.Reading.{Reading, got, bad}
+use Rattle.meaning.specs.Sheet.{Sheet, encodings}
 use Rattle.meaning.specs.Parts.{Child, part, packedPrim, children, childOf, names, nameText, namePlace}
 use Rattle.board.specs.declared.Answer.{Answer}
 
@@ -40,3 +41,8 @@ nameAnswer (bad number place) k = refused number place
 nameAnswer (got s left) k =
     ltb k (length (names s)) ⇒ answered (namePlace s k) (length (nameText s k)) 0 ∣ λ _.
     refused noSuchPart (length (names s))
+
+-- `shiulbart_sheet`: how many bytes of encodings a sheet has, and how many entries, or the refusal
+abbrev pub sheetAnswer : Reading Sheet → Answer
+sheetAnswer (got σ left) = answered 0 (length (encodings σ)) (length σ)
+sheetAnswer (bad number place) = refused number place

@@ -1,11 +1,15 @@
 // Every call that a host makes, on byte slices and plain numbers. Each trusts nobody to have looked first. include/shiulbart.h is this page for C.
+use leaves::refusals::SHEET_BROKEN;
 use parts::FoundChild;
 use parts::FoundName;
 use reader::Judgement;
+use sheets::Checked;
 ghost use mathlib.Core.Path.{_≡_};
 ghost use Prim.Native.Nat.{_<_};
+ghost use Rattle.meaning.specs.Refusals.{sheetBroken};
 ghost use Rattle.meaning.specs.Reading.{reading};
-ghost use Rattle.board.specs.Answers.{answered, refused, readAnswer, childAnswer, nameAnswer};
+ghost use Rattle.meaning.specs.SheetReading.{readSheet};
+ghost use Rattle.board.specs.Answers.{answered, refused, readAnswer, childAnswer, nameAnswer, sheetAnswer};
 
 // What every call says. Number 0 is an answer; otherwise number and place are the paper's. A field that a call does not use is 0.
 #[repr(C)]
@@ -73,5 +77,16 @@ pub extern "C" fn shiulbart_name(bytes: &[u8], k: u64) -> Answer
     match parts::name(bytes, k) {
         FoundName::Refused { number, place } => refusal_of(number, place),
         FoundName::Text { place, length } => answer_of(place, length, 0),
+    }
+}
+
+// Checks a sheet: how many bytes of encodings it has as length, how many entries as extra, or the refusal.
+#[no_mangle]
+pub extern "C" fn shiulbart_sheet(sheet: &[u8]) -> Answer
+    ensures { λ r. ⌜ r ≡ sheetAnswer (readSheet sheetBroken (now (sheet .entry))) ⌝ }
+{
+    match sheets::check(sheet) {
+        Checked::Broken { place } => refusal_of(SHEET_BROKEN, place),
+        Checked::Sound { entries, bytes } => answer_of(0, bytes, entries),
     }
 }

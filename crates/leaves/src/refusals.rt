@@ -30,5 +30,8 @@ pub const TOO_DEEP: usize = 7;
 // An input is longer than its limit.
 pub const INPUT_TOO_LONG: usize = 8;
 
+// A sheet is broken.
+pub const SHEET_BROKEN: usize = 13;
+
 // There is no such child or name.
 pub const NO_SUCH_PART: usize = 18;

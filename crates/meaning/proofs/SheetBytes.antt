@@ -3,11 +3,12 @@
 --     sheet-read            what is read as a sheet are the bytes of that sheet, and it is within the limits
 --     accepts-sheet         both in one
 --     same-sheet-bytes      bytes and sheet determine each other
---     sheet-refusal         a refusal has the number that it was handed, and a place no further on than the end
+--     sheet-refusal         a refusal has the number that it was handed, and a place no further on than the end, nor than longest
 --     sheet-length          how many bytes a sheet has
+--     longest               how many at the limits
 --     sheet-small           a sheet is written as bytes
 -- Assumes nothing.
-use Prim.Native.Nat.{ℕ, zero, suc, _+_, _*_, _-_, _≤_, _<_}
+use Prim.Native.Nat.{ℕ, zero, suc, _+_, _*_, _-_, _≤_, _<_, min}
 use mathlib.Core.Path.{_≡_, refl, sym, _∙_, ap, ap₂}
 use mathlib.Core.Logic.{_↔_}
 use mathlib.Core.Bool.{not}
@@ -54,6 +55,10 @@ rest-length σ = rw length-append (omega (arith, entries-length (lengths σ), ea
 pub sheet-length : (σ : Sheet) → length (sheetBytes σ) ≡ countSize + entrySize * length σ + countSize + length (encodings σ)
 unfolding sheetBytes
 sheet-length σ = omega (arith, rest-length σ)
+
+-- how many bytes a sheet has whose entries and encodings are at their limits
+abbrev pub longest : ℕ
+longest = countSize + entrySize * maxEntries + countSize + maxEncodings
 
 -- Two bytes are those of the number that they are.
 two-bytes : (x y : ℕ) → x < 256 → y < 256 → twoBytes (ofTwo x y) ≡ x ∷ y ∷ []
@@ -266,12 +271,12 @@ module _ (broken : ℕ) where
       at-entry (bad k q) g = this (omega arith) g
 
   -- A refusal of the second section is at its count, at a byte left over or at an entry.
-  second-refusal : (top q : ℕ) (es : List (Numbered ℕ)) (w : List ℕ) (n p : ℕ) → q + length w ≤ top → length es ≤ top → readSecond broken q es w ≡ bad n p → Broken top n p
+  second-refusal : (top q : ℕ) (es : List (Numbered ℕ)) (w : List ℕ) (n p : ℕ) → q + min (length w) (countSize + maxEncodings) ≤ top → length es ≤ top → readSecond broken q es w ≡ bad n p → Broken top n p
   unfolding readSecond
   second-refusal top q es [] n p l k = this (omega arith)
   second-refusal top q es (x ∷ []) n p l k = this (omega arith)
   second-refusal top q es (x ∷ y ∷ w) n p l k =
-      rule (λ r. r ≡ bad n p → Broken top n p) (ltb maxEncodings (ofTwo x y)) _ _ (λ _. this (omega arith)) λ _.
+      rule (λ r. r ≡ bad n p → Broken top n p) (ltb maxEncodings (ofTwo x y)) _ _ (λ _. this (omega arith)) λ m.
       rule (λ r. r ≡ bad n p → Broken top n p) (not (eqb (ofTwo x y) (sum es))) _ _ (λ _. this (omega arith)) λ _.
       rule (λ r. r ≡ bad n p → Broken top n p) (ltb (length w) (ofTwo x y)) _ _ (λ _. this (omega arith)) λ _.
       rule (λ r. r ≡ bad n p → Broken top n p) (ltb (ofTwo x y) (length w)) _ _ (λ t. this (omega (arith, facts))) λ _.
@@ -291,22 +296,22 @@ module _ (broken : ℕ) where
       rw (← same-got h .0, ← same-got h .1) (ap suc (r .0), omega arith)
 
   -- After the first count, a refusal is one of the entries or of the second section.
-  after-count : (top c : ℕ) (w : List ℕ) (n p : ℕ) → entrySize * c ≤ length w → countSize + length w ≤ top → (r : Reading (List (Numbered ℕ))) → readEntries broken 0 0 c w ≡ r → next r (readSecond broken (countSize + entrySize * c)) ≡ bad n p → Broken top n p
+  after-count : (top c : ℕ) (w : List ℕ) (n p : ℕ) → c ≤ maxEntries → entrySize * c ≤ length w → min (countSize + length w) longest ≤ top → (r : Reading (List (Numbered ℕ))) → readEntries broken 0 0 c w ≡ r → next r (readSecond broken (countSize + entrySize * c)) ≡ bad n p → Broken top n p
   unfolding next
-  after-count top c w n p l k (bad m q) e h = let a : m ≡ n = cc in let b : q ≡ p = cc in entries-refusal top 0 0 c w n p (omega arith) (e ∙ ap₂ bad a b)
-  after-count top c w n p l k (got es u) e h =
+  after-count top c w n p f l k (bad m q) e h = let a : m ≡ n = cc in let b : q ≡ p = cc in entries-refusal top 0 0 c w n p (omega arith) (e ∙ ap₂ bad a b)
+  after-count top c w n p f l k (got es u) e h =
       let r = entries-rest 0 0 c w es u e in
       second-refusal top _ es u n p (omega (arith, r .1)) (omega (arith, r .0)) h
 
-  -- A refusal of a sheet has the number that was handed in, and a place no further on than its end.
-  pub sheet-refusal : (w : List ℕ) (n p : ℕ) → readSheet broken w ≡ bad n p → Broken (length w) n p
+  -- A refusal of a sheet has the number that was handed in, and a place no further on than its end, nor than that of the longest sheet.
+  pub sheet-refusal : (w : List ℕ) (n p : ℕ) → readSheet broken w ≡ bad n p → Broken (min (length w) longest) n p
   unfolding readSheet
   sheet-refusal [] n p = this (omega arith)
   sheet-refusal (x ∷ []) n p = this (omega arith)
   sheet-refusal (x ∷ y ∷ w) n p =
-      rule (λ r. r ≡ bad n p → Broken (length (x ∷ y ∷ w)) n p) (ltb maxEntries (ofTwo x y)) _ _ (λ _. this (omega arith)) λ _.
-      rule (λ r. r ≡ bad n p → Broken (length (x ∷ y ∷ w)) n p) (ltb (length w) (entrySize * ofTwo x y)) _ _ (λ _. this (omega arith)) λ t.
-      after-count _ (ofTwo x y) w n p (ltb-false _ _ t) (omega arith) _ refl
+      rule (λ r. r ≡ bad n p → Broken (min (length (x ∷ y ∷ w)) longest) n p) (ltb maxEntries (ofTwo x y)) _ _ (λ _. this (omega arith)) λ f.
+      rule (λ r. r ≡ bad n p → Broken (min (length (x ∷ y ∷ w)) longest) n p) (ltb (length w) (entrySize * ofTwo x y)) _ _ (λ _. this (omega arith)) λ t.
+      after-count _ (ofTwo x y) w n p (ltb-false _ _ f) (ltb-false _ _ t) (omega arith) _ refl
 
 -- Two sheets within the limits that have the same bytes are the same.
 pub same-sheet-bytes : (σ τ : Sheet) → SheetWithin σ → SheetWithin τ → sheetBytes σ ≡ sheetBytes τ → σ ≡ τ

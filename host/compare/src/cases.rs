@@ -4,6 +4,8 @@
 
 use crate::random::Random;
 
+pub mod sheets;
+
 const MAX_BYTES: usize = 2048;
 const MAX_LEVELS: usize = 16;
 

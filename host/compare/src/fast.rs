@@ -9,6 +9,7 @@
 //! compiled function, so the right reader does not pay for it.
 
 pub mod parts;
+pub mod sheet;
 
 /// An encoding that was accepted.
 #[derive(Clone, Copy, Debug, PartialEq, Eq)]

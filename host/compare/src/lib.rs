@@ -2,7 +2,7 @@
 //! one written in Rust for speed, which says what is fast. `bin/compare` compares them case by case,
 //! `bin/bench` measures their time and `bin/stack` their stack.
 //!
-//! A further call is added beside `read`, `child` and `name` in each place: its inputs in `cases`,
+//! A further call is added beside `read`, `child`, `name` and `sheet` in each place: its inputs in `cases`,
 //! its outcome of each program here, a function in `bin/compare`, its worst inputs in `stack`.
 
 pub mod cases;
@@ -13,7 +13,7 @@ pub mod stack;
 pub mod wrong;
 
 /// What a call says, as the four numbers of the board's answer. Number 0 is an answer; extra is the
-/// depth for `read`, and 1 for a packed parent's child.
+/// depth for `read`, 1 for a packed parent's child, and the entries for `sheet`.
 #[derive(Clone, Copy, Debug, PartialEq, Eq)]
 pub struct Outcome {
     pub number: u32,
@@ -230,6 +230,74 @@ pub mod name {
         ("gives k for the count in 18", k_for_the_count),
         ("takes k modulo 2^32", k_of_32_bits),
         ("gives 18 before 1 to 8", eighteen_first),
+    ];
+}
+
+/// `sheet` of each program.
+pub mod sheet {
+    use crate::fast::sheet::{check, fault::*};
+    use crate::read::Wrong;
+    use crate::Outcome;
+
+    pub fn proved(bytes: &[u8]) -> Outcome {
+        match shiulbart::sheet(bytes) {
+            Ok(size) => Outcome::answer(size.encodings, size.entries),
+            Err(refusal) => Outcome::refusal(refusal.number(), refusal.place()),
+        }
+    }
+
+    pub fn model(bytes: &[u8]) -> Outcome {
+        match model::sheet::check(bytes, 13) {
+            Ok(sheet) => {
+                let lengths = sheet
+                    .0
+                    .iter()
+                    .map(|(_, shape)| model::shape::encoded_len(shape));
+                Outcome::answer(lengths.sum::<u64>() as usize, sheet.0.len())
+            }
+            Err(refusal) => Outcome::refusal(refusal.number, refusal.place),
+        }
+    }
+
+    /// The fast check: right with fault 0, else a wrong model.
+    pub fn fast<const FAULT: u8>(bytes: &[u8]) -> Outcome {
+        match check::<FAULT>(bytes) {
+            Ok(checked) => Outcome::answer(checked.encodings, checked.entries),
+            Err(broken) => Outcome::refusal(13, broken.place),
+        }
+    }
+
+    pub const WRONG: [Wrong; 21] = [
+        ("refuses everything", fast::<REFUSES_EVERYTHING>),
+        ("gives the whole sheet's length", fast::<WHOLE_LENGTH>),
+        ("takes 33 entries", fast::<ENTRIES_33>),
+        ("places a missing entry at itself", fast::<MISSING_ENTRY>),
+        ("takes equal numbers", fast::<EQUAL_NUMBERS>),
+        ("takes falling numbers", fast::<FALLING_NUMBERS>),
+        ("compares low bytes of numbers", fast::<LOW_BYTES>),
+        ("takes length 0", fast::<LENGTH_0>),
+        ("takes lengths over 2,048", fast::<LONGER>),
+        ("checks all numbers before lengths", fast::<NUMBERS_FIRST>),
+        (
+            "places a cut second count at end",
+            fast::<SECOND_COUNT_AT_END>,
+        ),
+        ("takes a second count over 16,384", fast::<MORE_BYTES>),
+        ("does not check the sum", fast::<NO_SUM>),
+        ("takes the sum modulo 2^16", fast::<SUM_OF_16_BITS>),
+        ("takes bytes left over", fast::<LEFT_OVER>),
+        (
+            "places bytes left over at the count",
+            fast::<LEFT_OVER_AT_COUNT>,
+        ),
+        (
+            "reads before it looks for leftovers",
+            fast::<ENCODINGS_FIRST>,
+        ),
+        ("does not read the encodings", fast::<NOT_READ>),
+        ("does not read the last encoding", fast::<LAST_NOT_READ>),
+        ("gives the reader's place", fast::<PLACE_IN_ENCODING>),
+        ("gives the bad byte's place", fast::<PLACE_IN_SHEET>),
     ];
 }
 

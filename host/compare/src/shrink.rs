@@ -2,6 +2,7 @@
 //! it.
 
 use crate::cases::leb128;
+use std::ops::Range;
 
 /// Simplifies and drops bytes while the input differs.
 pub fn shrink(input: &[u8], differs: impl Fn(&[u8]) -> bool) -> Vec<u8> {
@@ -14,6 +15,101 @@ pub fn shrink(input: &[u8], differs: impl Fn(&[u8]) -> bool) -> Vec<u8> {
             return bytes;
         }
     }
+}
+
+/// As `shrink`, for a sheet: first drops entries with their encodings, and makes encodings shorter.
+pub fn shrink_sheet(input: &[u8], differs: impl Fn(&[u8]) -> bool) -> Vec<u8> {
+    let mut bytes = input.to_vec();
+    loop {
+        let before = bytes.clone();
+        for index in (0..33).rev() {
+            while let Some(smaller) = Entry::of(&bytes, index)
+                .map_or(vec![], |entry| entry.smaller())
+                .into_iter()
+                .find(|smaller| smaller.len() < bytes.len() && differs(smaller))
+            {
+                bytes = smaller;
+            }
+        }
+        if bytes == before {
+            break;
+        }
+    }
+    match bytes.len() {
+        0..=LONGEST => shrink(&bytes, differs),
+        _ => bytes,
+    }
+}
+
+/// Longer inputs would take too long, byte by byte.
+const LONGEST: usize = 4096;
+
+/// An entry of a sheet, which may be broken.
+struct Entry<'a> {
+    sheet: &'a [u8],
+    /// where the entry is
+    place: usize,
+    /// where the second count is
+    second_count: usize,
+    /// where the encoding is, as far as it is there
+    own: Range<usize>,
+}
+
+impl Entry<'_> {
+    fn of(sheet: &[u8], index: usize) -> Option<Entry<'_>> {
+        let count = number(sheet, 0)? as usize;
+        let second_count = 2 + 4 * count;
+        number(sheet, second_count)?;
+        if index >= count {
+            return None;
+        }
+        let length = |index: usize| number(sheet, 4 + 4 * index).map(usize::from);
+        let before: Option<usize> = (0..index).map(length).sum();
+        let start = (second_count + 2 + before?).min(sheet.len());
+        let stop = (start + length(index)?).min(sheet.len());
+        Some(Entry {
+            sheet,
+            place: 2 + 4 * index,
+            second_count,
+            own: start..stop,
+        })
+    }
+
+    /// The sheet without the entry, and with a shorter encoding for it.
+    fn smaller(&self) -> Vec<Vec<u8>> {
+        let own = &self.sheet[self.own.clone()];
+        let half = own.len() / 2;
+        let mut all = vec![self.dropped(), self.with(&[0x20])];
+        all.extend([1, half].map(|length| self.with(&own[..length.min(own.len())])));
+        all.extend([half, 1].map(|from| self.with(&own[from.min(own.len())..])));
+        all
+    }
+
+    /// The sheet with another encoding. The length and the second count are as wrong as they were.
+    fn with(&self, new: &[u8]) -> Vec<u8> {
+        let fewer = (self.own.len() as u16).wrapping_sub(new.len() as u16);
+        let mut bytes = self.sheet.to_vec();
+        bytes.splice(self.own.clone(), new.iter().copied());
+        for place in [self.place + 2, self.second_count] {
+            let less = number(self.sheet, place).map(|number| number.wrapping_sub(fewer));
+            bytes[place..place + 2].copy_from_slice(&less.unwrap_or(0).to_le_bytes());
+        }
+        bytes
+    }
+
+    /// The sheet without the entry. The counts are as wrong as they were.
+    fn dropped(&self) -> Vec<u8> {
+        let mut bytes = self.with(&[]);
+        bytes.drain(self.place..self.place + 4);
+        let fewer = number(self.sheet, 0).map_or(0, |count| count - 1);
+        bytes[..2].copy_from_slice(&fewer.to_le_bytes());
+        bytes
+    }
+}
+
+fn number(bytes: &[u8], place: usize) -> Option<u16> {
+    let two = bytes.get(place..place + 2)?;
+    Some(u16::from_le_bytes([two[0], two[1]]))
 }
 
 /// How many bytes are tried at once: the powers of two, so that whole blocks of text can go, and

@@ -2,12 +2,13 @@
 //! filled with a pattern, the call is made, and the lowest byte that lost the pattern says how far
 //! down the call went. What an empty call takes is subtracted.
 
+use crate::cases::sheets::{equal, symbol_of, Sheet};
 use crate::cases::{function, leb128, long, nested, record, symbol};
 use crate::Parts;
 
 /// What a call may take.
 pub const MOST_FOR_READ: usize = 4096;
-pub const MOST_FOR_ANOTHER: usize = 8192; // child and name too
+pub const MOST_FOR_ANOTHER: usize = 8192; // child, name and sheet too
 
 /// Painted below the caller: far more than any call may take.
 const PAINTED: usize = 512 * 1024;
@@ -149,4 +150,29 @@ pub fn worst_ks(call: Parts, bytes: &[u8]) -> [u64; 2] {
     let none = call(bytes, u64::MAX);
     let parts = if none.number == 18 { none.place } else { 0 };
     [parts.saturating_sub(1).into(), u64::MAX]
+}
+
+/// The stored worst inputs for `sheet`: small ones, large ones, some that are refused early, and each
+/// worst input for `read` as the last of 32 entries.
+pub fn worst_for_sheet() -> Vec<(String, Vec<u8>)> {
+    let mut inputs: Vec<(String, Vec<u8>)> = [
+        ("no bytes", vec![]),
+        ("the empty sheet", equal(0, &[])),
+        ("one Int (M13)", equal(1, &[0x20])),
+        ("32 Ints", equal(32, &[0x20])),
+        ("33 Ints", equal(33, &[0x20])),
+        ("32 of 512 bytes", equal(32, &symbol_of(512))),
+        ("8 of 2,048 bytes", equal(8, &symbol_of(2048))),
+        ("9 of 2,048 bytes", equal(9, &symbol_of(2048))),
+        ("32 of 2,048 bytes", equal(32, &symbol_of(2048))),
+        ("100,000 bytes of 0", vec![0; 100_000]),
+    ]
+    .map(|(name, bytes)| (name.to_string(), bytes))
+    .into();
+    for (name, bytes) in worst_for_read() {
+        let own = |blank| if blank < 31 { &[0x20][..] } else { &bytes[..] };
+        let sheet = Sheet::of((0..32).map(|blank| (blank, own(blank))));
+        inputs.push((format!("31 Ints and: {name}"), sheet.bytes()));
+    }
+    inputs
 }

@@ -1,8 +1,9 @@
 //! The inputs are the same on every machine, and reach every depth and number.
 
+use compare::cases::sheets::{symbol_of, SheetInputs};
 use compare::cases::{any_k, Inputs, PartInputs};
 use compare::random::Random;
-use compare::read;
+use compare::{read, sheet};
 
 #[test]
 fn same_seed_same_inputs() {
@@ -10,6 +11,9 @@ fn same_seed_same_inputs() {
     assert_eq!(inputs(1), inputs(1));
     assert_ne!(inputs(1), inputs(2));
     let inputs = |seed| PartInputs::new(seed).take(2000).collect::<Vec<_>>();
+    assert_eq!(inputs(1), inputs(1));
+    assert_ne!(inputs(1), inputs(2));
+    let inputs = |seed| SheetInputs::new(seed).take(500).collect::<Vec<_>>();
     assert_eq!(inputs(1), inputs(1));
     assert_ne!(inputs(1), inputs(2));
 }
@@ -70,4 +74,43 @@ fn every_sort_of_k() {
         assert!(ks.iter().filter(|&&k| k < count).count() >= 400 || count == 0);
         assert!(count == 0 || ks.contains(&(count - 1)));
     }
+}
+
+#[test]
+fn sheets_of_every_size() {
+    let mut sound = 0;
+    let mut counts = [0; 33];
+    let mut classes = [0; 15]; // by the number of binary digits, less one
+    let mut totals = Vec::new();
+    let mut lengths = Vec::new();
+    for bytes in SheetInputs::new(1).take(20_000) {
+        let outcome = sheet::model(&bytes);
+        if outcome.number == 0 {
+            sound += 1;
+            counts[outcome.extra as usize] += 1;
+            classes[outcome.length.max(1).ilog2() as usize] += 1;
+            totals.push(outcome.length);
+            let entries = bytes[2..].chunks(4).take(outcome.extra as usize);
+            lengths.extend(entries.map(|entry| u16::from_le_bytes([entry[2], entry[3]])));
+        }
+    }
+    assert!(sound > 5000, "{sound}");
+    assert!(counts.iter().all(|&times| times > 20), "{counts:?}");
+    assert!(classes.iter().all(|&times| times > 5), "{classes:?}");
+    for total in [0, 1, 32, 16_383, 16_384] {
+        assert!(totals.contains(&total), "no sheet of {total} bytes");
+    }
+    for length in [1, 4, 5, 2047, 2048] {
+        assert!(lengths.contains(&length), "no entry of {length} bytes");
+    }
+}
+
+#[test]
+fn symbols_of_every_length() {
+    for bytes in 5..=2048 {
+        let symbol = symbol_of(bytes);
+        assert_eq!(symbol.len(), bytes);
+        assert_eq!(read::model(&symbol).number, 0);
+    }
+    assert_eq!(symbol_of(2049).len(), 2049);
 }

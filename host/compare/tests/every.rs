@@ -1,7 +1,8 @@
 //! Small inputs without a gap: the three programs agree on all of them.
 
+use compare::cases::sheets::{equal, symbol_of};
 use compare::cases::{function, leb128, long, record};
-use compare::{child, name, read};
+use compare::{child, name, read, sheet};
 
 fn agree(bytes: &[u8]) {
     let right = read::model(bytes);
@@ -18,6 +19,12 @@ fn parts_agree(bytes: &[u8], k: u64) {
     let on = || format!("name {k} of {bytes:02X?}");
     assert_eq!(name::proved(bytes, k), right, "proved, {}", on());
     assert_eq!(name::fast(bytes, k), right, "fast, {}", on());
+}
+
+fn sheets_agree(bytes: &[u8]) {
+    let right = sheet::model(bytes);
+    assert_eq!(sheet::proved(bytes), right, "proved, on {bytes:02X?}");
+    assert_eq!(sheet::fast::<0>(bytes), right, "fast, on {bytes:02X?}");
 }
 
 /// The first parts, and numbers that are far too large.
@@ -163,6 +170,70 @@ fn parts_after_long_names_and_fields() {
         ] {
             assert_eq!(read::model(&bytes).number, 0);
             KS.into_iter().for_each(|k| parts_agree(&bytes, k));
+        }
+    }
+}
+
+/// Each count of entries, with no byte after it, one, as many as the entries take and a few more.
+#[test]
+fn sheets_of_every_count() {
+    sheets_agree(&[]);
+    for low in 0..=255u8 {
+        sheets_agree(&[low]);
+        for high in 0..=255u8 {
+            sheets_agree(&[low, high]);
+            sheets_agree(&[low, high, 0]);
+            sheets_agree(&[low, high, 0, 0]);
+            // the second count of an empty sheet, and that of M13's
+            sheets_agree(&[0, 0, low, high]);
+            sheets_agree(&[0, 0, low, high, 0x20]);
+            sheets_agree(&[1, 0, 0, 0, 1, 0, low, high, 0x20]);
+            // the number, the length and, of another sheet, the second number
+            sheets_agree(&[1, 0, low, high, 1, 0, 1, 0, 0x20]);
+            sheets_agree(&[1, 0, 0, 0, low, high, low, high, 0x20]);
+            sheets_agree(&[2, 0, 0x80, 0x80, 1, 0, low, high, 1, 0, 2, 0, 0x20, 0x20]);
+            // two bytes that are two encodings, or one
+            sheets_agree(&[2, 0, 0, 0, 1, 0, 1, 0, 1, 0, 2, 0, low, high]);
+            sheets_agree(&[1, 0, 0, 0, 2, 0, 2, 0, low, high]);
+        }
+    }
+}
+
+/// All that stands in a small sheet, in each mixture, cut at each place.
+#[test]
+fn small_sheets_in_every_mixture() {
+    for count in 0..=3 {
+        for blanks in [[0, 1], [1, 1], [1, 0]] {
+            for first in 0..=2 {
+                for second in 0..=2 {
+                    for total in 0..=5 {
+                        for bytes in 0..=5 {
+                            for byte in [0x20, 0xFF] {
+                                let head =
+                                    [count, 0, blanks[0], 0, first, 0, blanks[1], 0, second, 0];
+                                let mut sheet = head.to_vec();
+                                sheet.extend([total, 0]);
+                                sheet.resize(sheet.len() + bytes, byte);
+                                (0..=sheet.len()).for_each(|cut| sheets_agree(&sheet[..cut]));
+                            }
+                        }
+                    }
+                }
+            }
+        }
+    }
+}
+
+/// 0 to 34 entries of 1 to 2,049 bytes, whose sum may pass 16,384 and 65,535.
+#[test]
+fn sheets_of_every_number_of_entries() {
+    for count in 0..=34 {
+        sheets_agree(&equal(count, &[0x20]));
+        for bytes in [5, 511, 512, 513, 1927, 1928, 2047, 2048, 2049] {
+            let sheet = equal(count, &symbol_of(bytes));
+            sheets_agree(&sheet);
+            sheets_agree(&sheet[..sheet.len() - 1]);
+            sheets_agree(&[&sheet[..], &[0]].concat());
         }
     }
 }

@@ -1,9 +1,10 @@
 //! Every wrong model is told apart by a small input; the outcomes are those that 01-scope.md gives.
 
+use compare::cases::sheets::{equal, symbol_of, Sheet};
 use compare::cases::{function, long, nested, record, symbol};
 use compare::read::{self, WRONG};
-use compare::shrink::shrink;
-use compare::{child, name};
+use compare::shrink::{shrink, shrink_sheet};
+use compare::{child, name, sheet};
 
 #[test]
 fn each_differs_on_a_small_input() {
@@ -109,6 +110,78 @@ fn each_of_name_differs_on_a_small_input() {
         assert_eq!(name::fast(input, *k).to_string(), *right, "{fault}");
         assert_eq!(model(input, *k).to_string(), *wrong, "{fault}");
     }
+}
+
+#[test]
+fn each_of_sheet_differs_on_a_small_input() {
+    const INT: &[u8] = &[0x20];
+    let ints = |blanks: &[u16]| Sheet::of(blanks.iter().map(|&blank| (blank, INT))).bytes();
+    let changed = |count: u16, change: fn(&mut Sheet)| {
+        let mut sheet = Sheet::of((0..count).map(|blank| (blank, INT)));
+        change(&mut sheet);
+        sheet.bytes()
+    };
+    // two faults: the second is met by a model that does not see the first
+    let length_0 = changed(1, |sheet| (sheet.entries[0].1, sheet.second_count) = (0, 1));
+    let longer = changed(1, |sheet| sheet.entries[0].1 = 2049);
+    let two = changed(3, |sheet| (sheet.entries[0].1, sheet.entries[2].0) = (0, 0));
+    let not_the_sum = changed(1, |sheet| sheet.entries[0].1 = 2);
+    let left_over = changed(1, |sheet| sheet.encodings.push(0));
+    let both = changed(1, |sheet| sheet.encodings = vec![0xFF, 0]);
+    let bad = |blank| if blank == 1 { &[0xFF][..] } else { INT };
+    let bad_last = Sheet::of((0..2).map(|blank| (blank, bad(blank)))).bytes();
+    let mut wrapped = equal(32, &symbol_of(2048));
+    wrapped.truncate(132);
+    // in the order of WRONG: an input, what is right, what the wrong model says
+    let told_apart: [(Vec<u8>, &str, &str); sheet::WRONG.len()] = [
+        (equal(0, &[]), "ok 0 0", "no 13 0"),
+        (ints(&[0]), "ok 1 1", "ok 9 1"),
+        (equal(33, INT), "no 13 0", "ok 33 33"),
+        (ints(&[0, 1])[..6].to_vec(), "no 13 0", "no 13 1"),
+        (ints(&[7, 7]), "no 13 1", "ok 2 2"),
+        (ints(&[7, 6]), "no 13 1", "ok 2 2"),
+        (ints(&[255, 256]), "ok 2 2", "no 13 1"),
+        (length_0, "no 13 0", "no 13 6"),
+        (longer, "no 13 0", "no 13 6"),
+        (two, "no 13 0", "no 13 2"),
+        (vec![0, 0, 0], "no 13 2", "no 13 3"),
+        (equal(9, &symbol_of(2048)), "no 13 38", "ok 18432 9"),
+        (not_the_sum, "no 13 6", "ok 1 1"),
+        (wrapped, "no 13 130", "no 13 0"),
+        (left_over.clone(), "no 13 9", "ok 1 1"),
+        (left_over, "no 13 9", "no 13 6"),
+        (both, "no 13 9", "no 13 0"),
+        (bad_last.clone(), "no 13 1", "ok 2 2"),
+        (bad_last.clone(), "no 13 1", "ok 2 2"),
+        (bad_last.clone(), "no 13 1", "no 13 0"),
+        (bad_last, "no 13 1", "no 13 13"),
+    ];
+    for ((input, right, wrong), (fault, model)) in told_apart.iter().zip(sheet::WRONG) {
+        assert_eq!(sheet::proved(input).to_string(), *right, "{fault}");
+        assert_eq!(sheet::model(input).to_string(), *right, "{fault}");
+        assert_eq!(sheet::fast::<0>(input).to_string(), *right, "{fault}");
+        assert_eq!(model(input).to_string(), *wrong, "{fault}");
+    }
+}
+
+#[test]
+fn a_difference_in_a_sheet_is_made_small() {
+    let smallest = |fault: &str, input: &[u8]| {
+        let (_, wrong) = sheet::WRONG
+            .iter()
+            .find(|(name, _)| *name == fault)
+            .unwrap();
+        let differs = |bytes: &[u8]| wrong(bytes) != sheet::model(bytes);
+        assert!(differs(input));
+        shrink_sheet(input, differs)
+    };
+    let (long, bad) = (symbol_of(700), [0xFF; 500]);
+    let own = |blank| if blank == 5 { &bad[..] } else { &long[..] };
+    let sheet = Sheet::of((0..20).map(|blank| (blank, own(blank)))).bytes();
+    assert_eq!(smallest("does not read the encodings", &sheet).len(), 9);
+    let sheet = Sheet::of((0..20).map(|blank| (blank / 2, &long[..]))).bytes();
+    let smallest = smallest("takes equal numbers", &sheet);
+    assert!(smallest.len() <= 14, "{smallest:02X?}");
 }
 
 #[test]

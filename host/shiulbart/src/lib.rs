@@ -31,6 +31,8 @@
 //! # }
 //! ```
 //!
+//! A *sheet* says which shapes are to be put for the blanks of another one: [`sheet`](sheet()) checks it.
+//!
 //! # Memory
 //!
 //! Inputs are only read, and no call keeps a reference once it has returned. A call that writes its
@@ -51,11 +53,13 @@
 
 mod parts;
 mod refusal;
+mod sheet;
 #[allow(unsafe_code)]
 mod sys;
 
 pub use parts::{child, children, name, names, Child, Children, Name, Names, Primitive};
 pub use refusal::{Refusal, RefusalKind};
+pub use sheet::{sheet, SheetSize};
 
 /// The length and depth of an accepted encoding, as [`read`] answers them.
 #[derive(Clone, Copy, Debug, PartialEq, Eq, PartialOrd, Ord, Hash)]

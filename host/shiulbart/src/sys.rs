@@ -16,6 +16,7 @@ extern "C" {
     fn shiulbart_read(bytes: *const u8, length: usize) -> Answer;
     fn shiulbart_child(bytes: *const u8, length: usize, k: u64) -> Answer;
     fn shiulbart_name(bytes: *const u8, length: usize, k: u64) -> Answer;
+    fn shiulbart_sheet(sheet: *const u8, length: usize) -> Answer;
 }
 
 #[inline]
@@ -35,4 +36,10 @@ pub(crate) fn child(bytes: &[u8], k: u64) -> Answer {
 pub(crate) fn name(bytes: &[u8], k: u64) -> Answer {
     // SAFETY: as in `read`. Any k may come.
     unsafe { shiulbart_name(bytes.as_ptr(), bytes.len(), k) }
+}
+
+#[inline]
+pub(crate) fn sheet(sheet: &[u8]) -> Answer {
+    // SAFETY: as in `read`.
+    unsafe { shiulbart_sheet(sheet.as_ptr(), sheet.len()) }
 }

@@ -1,10 +1,12 @@
 //! The time of the proved calls beside the same work written in Rust for speed, and the peak stack
 //! of each. See README.md.
 
+use compare::cases::sheets::{equal, symbol_of, Sheet};
 use compare::cases::{function, leb128, long, nested, record, symbol, typical};
 use compare::random::Random;
-use compare::stack::{peak, worst_for_parts, worst_for_read, worst_ks};
-use compare::{child, fast, name, read, Parts};
+use compare::stack::{peak, worst_for_parts, worst_for_read, worst_for_sheet, worst_ks};
+use compare::{child, fast, name, read, sheet, Parts};
+use std::fmt::Display;
 use std::hint::black_box;
 use std::time::Instant;
 
@@ -195,6 +197,45 @@ fn cases_for_name() -> Vec<Case> {
     cases
 }
 
+fn cases_for_sheet() -> Vec<Case> {
+    let one = |name, bytes: Vec<u8>| one(name, &bytes, 0);
+    let blanks = |count| function(count, &vec![0x05; count], &[0x20]);
+    let typical = different();
+    let typical: Vec<Vec<u8>> = typical
+        .chunks(32)
+        .map(|chunk| Sheet::of((0..).zip(chunk.iter().map(|own| &own[..]))).bytes())
+        .collect();
+    let texts = equal(32, &symbol_of(500));
+    let wide = equal(8, &blanks(2042 - 2));
+    let with = |sheet: &[u8], at: usize, byte: u8| {
+        let mut sheet = sheet.to_vec();
+        sheet[at] = byte;
+        sheet
+    };
+    vec![
+        one("short: empty", equal(0, &[])),
+        one("short: one Int (M13)", equal(1, &[0x20])),
+        one("short: 32 Ints", equal(32, &[0x20])),
+        many("typical: 8 sheets of 32 different shapes", typical, 0),
+        one("long: 32 Symbols of 500 bytes", texts.clone()),
+        one(
+            "long: 32 Functions of 500 bytes",
+            equal(32, &blanks(500 - 6)),
+        ),
+        one("long: 8 Symbols of 2,048 bytes", equal(8, &symbol_of(2048))),
+        one("long: 8 Functions of 2,046 bytes", wide.clone()),
+        one("refused early: 33 entries", equal(33, &symbol_of(490))),
+        one("refused early: entry 0", with(&texts, 5, 9)),
+        one("refused early: entry 31", with(&texts, 2 + 4 * 31, 30)),
+        one(
+            "refused early: one byte left over",
+            [&texts[..], &[0]].concat(),
+        ),
+        one("refused late: texts, last byte", spoilt(&texts)),
+        one("refused late: wide, last byte", spoilt(&wide)),
+    ]
+}
+
 /// What is measured: a call on bytes, and k where it has one. None is inlined into the measurement.
 type Program = fn(&[u8], u64) -> bool;
 
@@ -226,6 +267,16 @@ fn proved_name(bytes: &[u8], k: u64) -> bool {
 #[inline(never)]
 fn rust_name(bytes: &[u8], k: u64) -> bool {
     black_box(fast::parts::name(bytes, k)).is_ok()
+}
+
+#[inline(never)]
+fn proved_sheet(bytes: &[u8], _: u64) -> bool {
+    black_box(shiulbart::sheet(bytes)).is_ok()
+}
+
+#[inline(never)]
+fn rust_sheet(bytes: &[u8], _: u64) -> bool {
+    black_box(fast::sheet::check::<0>(bytes)).is_ok()
 }
 
 #[inline(never)]
@@ -276,6 +327,16 @@ fn times(call: &str, programs: [Program; 2], cases: Vec<Case>, agree: impl Fn(&[
             case.name,
             each.join(" | ")
         );
+    }
+}
+
+/// A table of the peak stack of a call on its worst inputs.
+fn stack(call: &str, worst: Vec<(impl Display, Vec<u8>)>, programs: [Program; 2]) {
+    println!("\n| peak stack of `{call}` | proved, bytes | Rust, bytes |");
+    println!("|---|---:|---:|");
+    for (name, bytes) in worst {
+        let [a, b] = programs.map(|program| peak(|| _ = program(&bytes, 0)));
+        println!("| {name} | {a} | {b} |");
     }
 }
 
@@ -347,6 +408,12 @@ fn main() {
         cases_for_name(),
         |bytes, k| name::proved(bytes, k) == name::fast(bytes, k),
     );
+    times(
+        "sheet",
+        [proved_sheet, rust_sheet],
+        cases_for_sheet(),
+        |bytes, _| sheet::proved(bytes) == sheet::fast::<0>(bytes),
+    );
     println!("\n| the text alone, `std::str::from_utf8` | bytes | ns a byte |");
     println!("|---|---:|---:|");
     for (name, text) in [
@@ -359,13 +426,8 @@ fn main() {
         let taken = least(&[std_utf8], &[text], 0);
         println!("| {name} | {bytes} | {:.3} |", taken[0] / bytes as f64);
     }
-    println!("\n| peak stack of `read` | proved, bytes | Rust, bytes |");
-    println!("|---|---:|---:|");
-    for (name, bytes) in worst_for_read() {
-        let a = peak(|| _ = proved_read(&bytes, 0));
-        let b = peak(|| _ = rust_read(&bytes, 0));
-        println!("| {name} | {a} | {b} |");
-    }
+    stack("read", worst_for_read(), [proved_read, rust_read]);
     stack_of_parts("child", child::proved, [proved_child, rust_child]);
     stack_of_parts("name", name::proved, [proved_name, rust_name]);
+    stack("sheet", worst_for_sheet(), [proved_sheet, rust_sheet]);
 }

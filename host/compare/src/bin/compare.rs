@@ -1,9 +1,10 @@
 //! Compares the proved calls with the independent model, case by case. See README.md.
 
+use compare::fast::sheet::{check, Rule};
 use compare::random::Random;
-use compare::read::{self, Read, WRONG};
-use compare::shrink::shrink;
-use compare::{cases, child, hex, name, Outcome, Parts, WrongParts};
+use compare::read::{self, Read, Wrong, WRONG};
+use compare::shrink::{shrink, shrink_sheet};
+use compare::{cases, child, hex, name, sheet, Outcome, Parts, WrongParts};
 use std::process::ExitCode;
 use std::time::{Duration, Instant};
 
@@ -17,15 +18,18 @@ const USAGE: &str = "usage: compare --gate | --cases N [--seed S] [--wrong K]
 const SEED: u64 = 2048;
 const READ_CASES: usize = 200_000;
 const PARTS_CASES: usize = 20_000;
+const SHEET_CASES: usize = 20_000;
 
 /// The numbers of the wrong models: those of `child` follow those of `read`, and so on.
 const WRONG_CHILD: usize = WRONG.len();
 const WRONG_NAME: usize = WRONG_CHILD + child::WRONG.len();
-const ALL_WRONG: usize = WRONG_NAME + name::WRONG.len();
+const WRONG_SHEET: usize = WRONG_NAME + name::WRONG.len();
+const ALL_WRONG: usize = WRONG_SHEET + sheet::WRONG.len();
 
 /// The numbers that a refusal of each call can carry.
 const READ_NUMBERS: [usize; 8] = [1, 2, 3, 4, 5, 6, 7, 8];
 const PARTS_NUMBERS: [usize; 9] = [1, 2, 3, 4, 5, 6, 7, 8, 18];
+const SHEET_NUMBERS: [usize; 1] = [13];
 
 /// What the gate's cases, or more, must hold for the comparison to mean something.
 const LEAST_OF_A_NUMBER: usize = 100;
@@ -101,8 +105,10 @@ impl Tally {
 
     /// The numbers that a call can give, and beside them how often something else came.
     fn print(&self, numbers: &[usize], head: [&str; 2], others: &[(String, usize)]) {
+        let words = others.iter().map(|(what, _)| what.len());
+        let width = words.max().unwrap_or(0).max(head[0].len()).max(8);
         println!(
-            "  {:>8} {:>8}   {:>8} {:>8}",
+            "  {:>8} {:>8}   {:>width$} {:>8}",
             "number", "cases", head[0], head[1]
         );
         let answered = ("answered".to_string(), self.numbers[0]);
@@ -110,12 +116,12 @@ impl Tally {
             .iter()
             .map(|&number| (number.to_string(), self.numbers[number]));
         let left: Vec<(String, usize)> = std::iter::once(answered).chain(refused).collect();
-        let cell = |column: &[(String, usize)], i: usize| match column.get(i) {
-            Some((what, times)) => format!("{what:>8} {times:>8}"),
+        let cell = |column: &[(String, usize)], width: usize, i: usize| match column.get(i) {
+            Some((what, times)) => format!("{what:>width$} {times:>8}"),
             None => String::new(),
         };
         for i in 0..left.len().max(others.len()) {
-            let line = format!("  {:>17}   {}", cell(&left, i), cell(others, i));
+            let line = format!("  {:>17}   {}", cell(&left, 8, i), cell(others, width, i));
             println!("{}", line.trim_end());
         }
     }
@@ -169,45 +175,77 @@ impl Progress {
     }
 }
 
-/// Compares `read`.
-fn compare_read(options: &Options, count: &mut Count) {
+/// Makes an input small that differs.
+type Smallest = fn(&[u8], &dyn Fn(&[u8]) -> bool) -> Vec<u8>;
+
+/// The programs of `read` or `sheet`, and the sorts that are counted beside the numbers.
+struct BytesCall {
+    name: &'static str,
+    proved: Read,
+    fast: Read,
+    model: Read,
+    wrong: &'static [Wrong],
+    wrong_before: usize,
+    gate: usize,
+    numbers: &'static [usize],
+    smallest: Smallest,
+    head: [&'static str; 2],
+    sorts: Vec<String>,
+    sort: fn(&[u8], Outcome) -> Option<usize>,
+    /// whether the gate's cases must hold enough of each sort, too
+    every_sort: bool,
+}
+
+/// Compares `read` or `sheet`.
+fn compare_bytes(
+    call: &BytesCall,
+    fixed: Vec<Vec<u8>>,
+    generated: impl Iterator<Item = Vec<u8>>,
+    options: &Options,
+    count: &mut Count,
+) {
     let all = if options.gate {
-        READ_CASES
+        call.gate
     } else {
         options.cases
     };
-    let proved = options.instead(&WRONG, 0).unwrap_or(read::proved);
-    let others: [(&str, Read); 2] = [("proved", proved), ("fast", read::fast::<0>)];
-    let mut told_apart = [None; WRONG.len()];
+    let proved = options
+        .instead(call.wrong, call.wrong_before)
+        .unwrap_or(call.proved);
+    let others: [(&str, Read); 2] = [("proved", proved), ("fast", call.fast)];
+    let mut told_apart = vec![None; call.wrong.len()];
     let mut tally = Tally::default();
-    let mut depths = [0; 17];
+    let mut sorts: Vec<(String, usize)> = call.sorts.iter().map(|sort| (sort.clone(), 0)).collect();
     let mut progress = Progress::new();
     let mut differences = 0;
     let mut done = 0;
 
-    let fixed = cases::always();
     let generated_from = fixed.len();
-    let inputs = fixed.into_iter().chain(cases::Inputs::new(options.seed));
+    let inputs = fixed.into_iter().chain(generated);
     for (i, bytes) in inputs.take(all).enumerate() {
         let running = Running(&bytes, None);
-        let right = read::model(&bytes);
+        let right = (call.model)(&bytes);
         tally.add(right);
-        depths[right.extra as usize] += 1;
+        if let Some(sort) = (call.sort)(&bytes, right) {
+            sorts[sort].1 += 1;
+        }
         let mut same = true;
         for (name, other) in others {
             if other(&bytes) != right {
                 same = false;
                 if differences < SHOWN {
                     println!(
-                        "read: case {i}: {name} says {}, the model {right}",
+                        "{}: case {i}: {name} says {}, the model {right}",
+                        call.name,
                         other(&bytes)
                     );
-                    let small = shrink(&bytes, |bytes| other(bytes) != read::model(bytes));
+                    let small =
+                        (call.smallest)(&bytes, &|bytes| other(bytes) != (call.model)(bytes));
                     println!("  smallest input found: {}", hex(&small));
                     println!(
                         "  {name} says {}, the model {}",
                         other(&small),
-                        read::model(&small)
+                        (call.model)(&small)
                     );
                 }
                 differences += 1;
@@ -217,7 +255,7 @@ fn compare_read(options: &Options, count: &mut Count) {
         done += 1;
         // the generated cases have to tell them apart: the fixed ones would do it too easily
         if i >= generated_from {
-            for ((_, wrong), told) in WRONG.iter().zip(&mut told_apart) {
+            for ((_, wrong), told) in call.wrong.iter().zip(&mut told_apart) {
                 if told.is_none() && wrong(&bytes) != right {
                     *told = Some(i + 1 - generated_from);
                 }
@@ -225,29 +263,37 @@ fn compare_read(options: &Options, count: &mut Count) {
         }
         drop(running);
         if differences >= GIVEN_UP {
-            println!("read: given up after {differences} differences");
+            println!("{}: given up after {differences} differences", call.name);
             break;
         }
         if !options.gate {
-            progress.tell("read", done, all);
+            progress.tell(call.name, done, all);
         }
     }
 
     let seconds = progress.start.elapsed().as_secs_f64();
     println!(
-        "read: {done} cases, {generated_from} of them fixed, seed {}, {seconds:.1} s",
-        options.seed
+        "{}: {done} cases, {generated_from} of them fixed, seed {}, {seconds:.1} s",
+        call.name, options.seed
     );
-    let depths: Vec<(String, usize)> = (1..=16)
-        .map(|depth| (depth.to_string(), depths[depth]))
-        .collect();
-    tally.print(&READ_NUMBERS, ["depth", "answers"], &depths);
-    print_wrong(&WRONG, 0, &told_apart, all >= READ_CASES, count);
-    if all >= READ_CASES {
-        tally.check("read", all, &READ_NUMBERS, count);
+    tally.print(call.numbers, call.head, &sorts);
+    let enough = all >= call.gate;
+    print_wrong(call.wrong, call.wrong_before, &told_apart, enough, count);
+    if enough {
+        tally.check(call.name, all, call.numbers, count);
+        for (sort, times) in sorts {
+            if call.every_sort && times < LEAST_OF_A_NUMBER {
+                println!(
+                    "{}: {sort}: {times} times, under {LEAST_OF_A_NUMBER}",
+                    call.name
+                );
+                count.failed += 1;
+            }
+        }
     } else {
         println!(
-            "  under {READ_CASES} cases neither every number nor every wrong model is demanded"
+            "  under {} cases neither every number nor every wrong model is demanded",
+            call.gate
         );
     }
 }
@@ -412,7 +458,23 @@ fn main() -> ExitCode {
         return ExitCode::from(2);
     };
     let mut count = Count::default();
-    compare_read(&options, &mut count);
+    let read = BytesCall {
+        name: "read",
+        proved: read::proved,
+        fast: read::fast::<0>,
+        model: read::model,
+        wrong: &WRONG,
+        wrong_before: 0,
+        gate: READ_CASES,
+        numbers: &READ_NUMBERS,
+        smallest: |bytes, differs| shrink(bytes, differs),
+        head: ["depth", "answers"],
+        sorts: (1..=16).map(|depth: usize| depth.to_string()).collect(),
+        sort: |_, right| (right.extra as usize).checked_sub(1),
+        every_sort: false,
+    };
+    let generated = cases::Inputs::new(options.seed);
+    compare_bytes(&read, cases::always(), generated, &options, &mut count);
     let child = PartsCall {
         name: "child",
         proved: child::proved,
@@ -431,6 +493,24 @@ fn main() -> ExitCode {
         wrong_before: WRONG_NAME,
     };
     compare_parts(&name, &options, &mut count);
+    let sheet = BytesCall {
+        name: "sheet",
+        proved: sheet::proved,
+        fast: sheet::fast::<0>,
+        model: sheet::model,
+        wrong: &sheet::WRONG,
+        wrong_before: WRONG_SHEET,
+        gate: SHEET_CASES,
+        numbers: &SHEET_NUMBERS,
+        smallest: |bytes, differs| shrink_sheet(bytes, differs),
+        head: ["13, as the fast check sees it", "cases"],
+        sorts: Rule::ALL.map(String::from).into(),
+        sort: |bytes, _| check::<0>(bytes).err().map(|broken| broken.rule as usize),
+        every_sort: true,
+    };
+    let fixed = cases::sheets::always();
+    let generated = cases::sheets::SheetInputs::new(options.seed);
+    compare_bytes(&sheet, fixed, generated, &options, &mut count);
     println!("{} passed, {} failed", count.passed, count.failed);
     match count.failed {
         0 => ExitCode::SUCCESS,

@@ -1,9 +1,10 @@
 //! The peak stack of each call on the stored worst inputs; fails if one takes more than it may.
 
 use compare::stack::{
-    peak, worst_for_parts, worst_for_read, worst_ks, MOST_FOR_ANOTHER, MOST_FOR_READ,
+    peak, worst_for_parts, worst_for_read, worst_for_sheet, worst_ks, MOST_FOR_ANOTHER,
+    MOST_FOR_READ,
 };
-use compare::{child, name, read, Outcome, Parts};
+use compare::{child, name, read, sheet, Outcome, Parts};
 use std::hint::black_box;
 use std::process::ExitCode;
 
@@ -58,6 +59,13 @@ fn main() -> ExitCode {
                 count.of(name, taken, MOST_FOR_ANOTHER, &input, proved(&bytes, k));
             }
         }
+    }
+    for (input, bytes) in worst_for_sheet() {
+        let taken = peak(|| {
+            let _ = black_box(shiulbart::sheet(black_box(&bytes)));
+        });
+        let outcome = sheet::proved(&bytes);
+        count.of("sheet", taken, MOST_FOR_ANOTHER, &input, outcome);
     }
     println!("{} passed, {} failed", count.passed, count.failed);
     match count.failed {
