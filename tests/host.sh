@@ -4,19 +4,7 @@
 # Takes the archive from the folder SHIULBART_ARCHIVE_DIR instead, if that is set.
 set -u
 exec </dev/null
-top=$(dirname "$(dirname "$(readlink -f "${BASH_SOURCE[0]}")")")
-passed=0 failed=0
-
-finish() {
-    echo "$passed passed, $failed failed"
-    [ "$failed" -eq 0 ]
-    exit
-}
-
-wrong() { # WHAT
-    printf 'FAILED %s\n' "$1"
-    failed=$((failed + 1))
-}
+. "$(dirname "$(readlink -f "${BASH_SOURCE[0]}")")/tally.bash" || exit
 
 scratch=$(mktemp -d) || { wrong 'there is no temporary folder'; finish; }
 trap 'rm -rf "$scratch"' EXIT

@@ -1,19 +1,7 @@
 #!/usr/bin/env bash
 # Holds ./judge to examples/expected, and tries it on long and slow input and from another directory.
 set -u
-top=$(dirname "$(dirname "$(readlink -f "${BASH_SOURCE[0]}")")")
-passed=0 failed=0
-
-finish() {
-    echo "$passed passed, $failed failed"
-    [ "$failed" -eq 0 ]
-    exit
-}
-
-wrong() { # WHAT
-    printf 'FAILED %s\n' "$1"
-    failed=$((failed + 1))
-}
+. "$(dirname "$(readlink -f "${BASH_SOURCE[0]}")")/tally.bash" || exit
 
 # Holds a command that judges standard input to the line that it must print, and to exit status 0.
 expect() { # WHAT LINE COMMAND...
