@@ -101,7 +101,7 @@ all-fit [] a f = refl
 all-fit (e ∷ es) a f = made-fits (e .number) (e .item) (allMade es a) (f .0 .0) (f .0 .1) ∙ all-fit es a (f .1)
 
 -- The entries of a sheet within the limits are proper.
-proper-entries : (σ : Sheet) → SheetWithin σ → All ProperEntry σ
+pub proper-entries : (σ : Sheet) → SheetWithin σ → All ProperEntry σ
 proper-entries σ h = all-map EntryWithin ProperEntry (λ e a. (a .small, a .within .proper)) σ (h .all)
 
 -- So are they shallow and short.

@@ -1,7 +1,7 @@
 -- What a refusal of reading carries: a number of its own, 1 to 8, and a place no further on than the input's end, or its limit.
 --     refusal-small     so for any input
 -- Assumes nothing.
-use Prim.Native.Nat.{ℕ, zero, suc, _-_, _≤_, _<_}
+use Prim.Native.Nat.{ℕ, zero, suc, _≤_, _<_}
 use mathlib.Core.Path.{_≡_, sym, ap₂}
 use mathlib.Core.List.{List, [], _∷_}
 use native.Mathlib.Omega.{arith}

@@ -1,6 +1,7 @@
 -- The laws of reading that others cite.
 --     read-encode, reading-encode      bytes to shape undoes shape to bytes
 --     encode-reading                   shape to bytes undoes bytes to shape
+--     by-reading                       what holds of encodings and of refused inputs holds of every input
 --     nothing-left                     an input is read whole
 --     accepts                          what is read is exactly what is written of the shapes within the limits
 --     same-bytes, prefix-free, no-start     bytes and shape determine each other
@@ -18,7 +19,7 @@ use Rattle.meaning.specs.Limits.{maxBytes, maxLevels}
 use Rattle.meaning.specs.Shape.{Shape, depth, Proper}
 use Rattle.meaning.specs.Encode.{encode}
 use Rattle.meaning.specs.Within.{Bytes, Within}
-use Rattle.meaning.specs.Reading.{got, next, readShape, atEnd, reading}
+use Rattle.meaning.specs.Reading.{Reading, got, bad, next, readShape, atEnd, reading}
 use Rattle.meaning.proofs.Complete.{reads}
 use Rattle.meaning.proofs.Sound.{same-got, by-next, by-else, end, shape-right}
 use Rattle.meaning.proofs.Written.{encode-bytes}
@@ -59,6 +60,14 @@ encode-reading w s v b h =
     let took = shape-right maxLevels (length w) w t u b d in
     let whole : w ≡ encode t = sym (end (encode t) (took .is) (g .0)) in
     rw (← g .1) (whole, record { short = rw (← whole) (ltb-false _ _ p); shallow = took .shallow; small = rw (← whole) b; proper = took .proper })
+
+-- What holds of the encodings of the shapes within the limits, and of an input that is refused, holds of any input as it is read.
+pub by-reading : (P : List ℕ → Reading Shape → Type 0) (w : List ℕ) → Bytes w → ((s : Shape) (v : List ℕ) → Within s → P (encode s) (got s v)) → ((n p : ℕ) → P w (bad n p)) → P w (reading w)
+by-reading P w b h k = go (reading w) refl
+  where
+    go : (r : Reading Shape) → reading w ≡ r → P w r
+    go (got s v) p = let e = encode-reading w s v b p in rw (e .0) (h s v (e .1))
+    go (bad n q) p = k n q
 
 -- The inputs that are read as a shape are exactly the encodings of the shapes within the limits.
 pub accepts : (w : List ℕ) → (Bytes w × ((s : Shape) × (reading w ≡ got s []))) ↔ ((s : Shape) × (w ≡ encode s) × Within s)

@@ -14,3 +14,4 @@ pub mod Plug
 pub mod Join
 pub mod SheetBytes
 pub mod Answers
+pub mod Bounds

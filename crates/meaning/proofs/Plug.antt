@@ -2,10 +2,11 @@
 --     plug-plug      one replacement after another is one replacement
 --     plug-blank     blanks in their own places change nothing
 --     plug-proper    what is made of proper shapes is proper
+--     fields-kept, parameters-kept     there are as many fields and parameters
 -- Assumes nothing.
-use Prim.Native.Nat.{ℕ, _<_}
+use Prim.Native.Nat.{ℕ, suc, _<_}
 use mathlib.Core.Path.{_≡_, refl, ap, ap₂}
-use Rattle.meaning.specs.Shape.{Sort, Tree, prim, blank, arrayOf, mapOf, recordOf, functionOf, symbolOf, noFields, field, noParameters, parameter, Shape, Proper}
+use Rattle.meaning.specs.Shape.{Sort, fields, parameters, Tree, prim, blank, arrayOf, mapOf, recordOf, functionOf, symbolOf, noFields, field, noParameters, parameter, Shape, count, Proper}
 use Rattle.meaning.specs.Sheet.{plug}
 
 -- One replacement after another is one replacement, of each blank by what the second makes of the first's shape for it.
@@ -52,3 +53,15 @@ plug-proper σ noFields h u = tt
 plug-proper σ (field n s f) h u = (u .0, plug-proper σ s h (u .1), plug-proper σ f h (u .2))
 plug-proper σ noParameters h u = tt
 plug-proper σ (parameter s p) h u = (plug-proper σ s h (u .0), plug-proper σ p h (u .1))
+
+-- A replacement keeps how many fields there are,
+pub fields-kept : (σ : ℕ → Shape) (f : Tree fields) → count (plug σ f) ≡ count f
+unfolding plug count
+fields-kept σ noFields = refl
+fields-kept σ (field n s f) = ap suc (fields-kept σ f)
+
+-- and how many parameters.
+pub parameters-kept : (σ : ℕ → Shape) (p : Tree parameters) → count (plug σ p) ≡ count p
+unfolding plug count
+parameters-kept σ noParameters = refl
+parameters-kept σ (parameter s p) = ap suc (parameters-kept σ p)

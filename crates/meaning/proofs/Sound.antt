@@ -1,5 +1,6 @@
 -- What is read as a shape are the bytes of that shape.
 --     by-next, by-if, by-else     a reading that got something, taken apart
+--     by-class                    what a first byte says, case by case
 --     shape-right                 of the reader of shapes
 -- Assumes nothing.
 use Prim.Native.Nat.{ℕ, zero, suc, _+_, _*_, _-_, _/_, _%_, _≤_, _<_, zero-le, suc-le-suc}
@@ -11,7 +12,7 @@ use native.Mathlib.Omega.{arith}
 use lib.Dec.{leb, ltb, eqb}
 use lib.ListN.{length, take, drop, take-append-drop}
 use lib.Seq.{length-take-le}
-use borrow.Author.Tests.{ltb-false, eqb-true, eqb-false, le-ltb}
+use borrow.Author.Tests.{ltb-true, ltb-false, eqb-true, eqb-false, lt-ltb, le-ltb}
 use Rattle.meaning.specs.Rules.{_⇒_∣_}
 use Rattle.meaning.specs.Numbers.{ofTwo, leb128}
 use Rattle.meaning.specs.Utf8.{utf8}
@@ -167,6 +168,27 @@ pub record Took (l n : ℕ) {k : Sort} (w : List ℕ) (t : Tree k) (v : List ℕ
 abbrev pub Right : ℕ → ℕ → {k : Sort} → Reader (Tree k) → Type 0
 Right l n {k} m = (e : ℕ) (w : List ℕ) (t : Tree k) (v : List ℕ) → Bytes w → m e w ≡ got t v → Took l n w t v
 
+module _ (P : Class → Type 0) (b : ℕ) (blanks : b < shortBlanks → P (whole (blank b))) (prims : (p : Primitive) → b ≡ primByte (code p) → P (whole (prim p)))
+    (arrays : (p : Primitive) → b ≡ arrayByte (code p) → P (packed (arrayOf (prim p))))
+    (maps : (p q : Primitive) → b ≡ mapByte (code p) (code q) → P (packed (mapOf (prim p) (prim q))))
+    (kinds : (k : Kind) → b ≡ kindByte k → P (long k)) (others : P unassigned) where
+  -- What holds of all that a first byte may say holds of what it says.
+  pub by-class : P (classOf b)
+  unfolding classOf
+  by-class =
+      rule P (ltb b shortBlanks) _ _ (λ p. blanks (ltb-true _ _ p)) λ p₁.
+      rule P (ltb b (primByte 5)) _ _ (λ p. prims _ (omega (arith, facts, code-prim (b - primByte 0) (omega (arith, facts))))) λ p₂.
+      rule P (eqb b (kindByte array)) _ _ (λ p. kinds array (eqb-true _ _ p)) λ _.
+      rule P (eqb b (kindByte map)) _ _ (λ p. kinds map (eqb-true _ _ p)) λ _.
+      rule P (eqb b (kindByte rec)) _ _ (λ p. kinds rec (eqb-true _ _ p)) λ _.
+      rule P (eqb b (kindByte function)) _ _ (λ p. kinds function (eqb-true _ _ p)) λ _.
+      rule P (eqb b (kindByte symbol)) _ _ (λ p. kinds symbol (eqb-true _ _ p)) λ _.
+      rule P (eqb b (kindByte variable)) _ _ (λ p. kinds variable (eqb-true _ _ p)) λ _.
+      rule P (ltb b (arrayByte 0)) _ _ (λ p. others) λ p₃.
+      rule P (ltb b (arrayByte 5)) _ _ (λ p. arrays _ (omega (arith, facts, code-prim (b - arrayByte 0) (omega (arith, facts))))) λ p₄.
+      rule P (ltb b (mapByte 5 0)) _ _ (λ p. maps _ _ (omega (arith, facts, code-prim ((b - mapByte 0 0) / 5) (omega (arith, facts)), code-prim ((b - mapByte 0 0) % 5) (omega arith)))) λ p₅.
+      others
+
 -- what a first byte says is right
 ClassFits : ℕ → Class → Type 0
 ClassFits b (whole s) = (encode s ≡ b ∷ []) × (depth s ≡ 1) × Proper s
@@ -176,19 +198,14 @@ ClassFits b unassigned = Unit {0}
 
 -- What any first byte says is right.
 class-fits : (b : ℕ) → ClassFits b (classOf b)
-unfolding classOf ClassFits encode depth Proper blankBytes arrayBytes mapBytes asPrim
+unfolding ClassFits encode depth Proper blankBytes arrayBytes mapBytes asPrim
 class-fits b =
-    rule (ClassFits b) (ltb b shortBlanks) _ _ (λ p. (rw p, refl, omega (arith, facts))) λ p₁.
-    rule (ClassFits b) (ltb b (primByte 5)) _ _ (λ p. (ap (λ (n : ℕ). n ∷ []) (omega (arith, facts, code-prim (b - primByte 0) (omega (arith, facts)))), refl, tt)) λ p₂.
-    rule (ClassFits b) (eqb b (kindByte array)) _ _ (eqb-true _ _) λ _.
-    rule (ClassFits b) (eqb b (kindByte map)) _ _ (eqb-true _ _) λ _.
-    rule (ClassFits b) (eqb b (kindByte rec)) _ _ (eqb-true _ _) λ _.
-    rule (ClassFits b) (eqb b (kindByte function)) _ _ (eqb-true _ _) λ _.
-    rule (ClassFits b) (eqb b (kindByte symbol)) _ _ (eqb-true _ _) λ _.
-    rule (ClassFits b) (eqb b (kindByte variable)) _ _ (eqb-true _ _) λ _.
-    rule (ClassFits b) (ltb b (arrayByte 0)) _ _ (λ p. tt) λ p₃.
-    rule (ClassFits b) (ltb b (arrayByte 5)) _ _ (λ p. (ap (λ (n : ℕ). n ∷ []) (omega (arith, facts, code-prim (b - arrayByte 0) (omega (arith, facts)))), refl, tt)) λ p₄.
-    rule (ClassFits b) (ltb b (mapByte 5 0)) _ _ (λ p. (ap (λ (n : ℕ). n ∷ []) (omega (arith, facts, code-prim ((b - mapByte 0 0) / 5) (omega (arith, facts)), code-prim ((b - mapByte 0 0) % 5) (omega arith))), refl, (tt, tt))) λ p₅.
+    by-class (ClassFits b) b
+    (λ h. (rw (lt-ltb b shortBlanks h), refl, omega arith))
+    (λ p e. (rw e, refl, tt))
+    (λ p e. (rw e, refl, tt))
+    (λ p q e. (rw e, refl, (tt, tt)))
+    (λ k e. e)
     tt
 
 -- A payload that was taken was read to its end, and is no long form of a short one.
