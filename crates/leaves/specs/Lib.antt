@@ -1,2 +1,3 @@
 pub mod Leb
+pub mod Written
 pub mod Onward

@@ -30,8 +30,23 @@ pub const TOO_DEEP: usize = 7;
 // An input is longer than its limit.
 pub const INPUT_TOO_LONG: usize = 8;
 
-// A sheet is broken.
+// The lent buffer is shorter than the answer.
+pub const BUFFER_SHORT: usize = 12;
+
+// A sheet is broken; when joining, the first.
 pub const SHEET_BROKEN: usize = 13;
+
+// The second sheet is broken.
+pub const SECOND_BROKEN: usize = 14;
+
+// A made shape is deeper than its limit.
+pub const MADE_TOO_DEEP: usize = 15;
+
+// A made shape is longer than its limit.
+pub const MADE_TOO_LONG: usize = 16;
+
+// A joined sheet has more entries, or more bytes, than its limit.
+pub const JOINED_TOO_LARGE: usize = 17;
 
 // There is no such child or name.
 pub const NO_SUCH_PART: usize = 18;
