@@ -1,9 +1,9 @@
 -- A shape with a list in its payload: what the steps find of its children and names is what the meaning says.
 -- Assumes nothing.
-use mathlib.Core.Path.{_≡_, refl, ap}
+use mathlib.Core.Path.{_≡_, refl, sym, ap, _∙_}
 use mathlib.Core.Bool.{Bool, true, false}
-use mathlib.Core.List.{List, [], _∷_, _++_, append-assoc}
-use Prim.Native.Nat.{ℕ, zero, suc, _+_, _-_, _≤_, _<_}
+use mathlib.Core.List.{List, [], _∷_, _++_, append-assoc, append-nil}
+use Prim.Native.Nat.{ℕ, zero, suc, _+_, _≤_, _<_}
 use native.Mathlib.Omega.{arith}
 use lib.ListN.{length, drop, getD, length-append}
 use lib.Dec.{ltb}
@@ -13,7 +13,7 @@ use Rattle.meaning.specs.Refusals.{noSuchPart}
 use Rattle.meaning.specs.Shape.{Shape}
 use Rattle.meaning.specs.Encode.{textBytes, encode}
 use Rattle.meaning.specs.Reading.{got, hasShort}
-use Rattle.meaning.specs.Parts.{Item, named, lone, items, nameBytes, shapeBytes, listBytes, listStart, itemOf, itemPlace, children, childOf, names, nameText, namePlace}
+use Rattle.meaning.specs.Parts.{Item, lone, items, nameBytes, shapeBytes, listBytes, listStart, itemOf, itemPlace, children, childOf, names, nameText, namePlace}
 use Rattle.meaning.specs.Numbers.{leb128}
 use Rattle.meaning.proofs.Rules.{both}
 use Rattle.meaning.proofs.Complete.{leb-pos}
@@ -27,9 +27,9 @@ use Rattle.parts.specs.Said.{childSaid, nameSaid, toldChild}
 use Rattle.parts.specs.Steps.{pastName, pastItems, childFrom, nameFrom, listing, listAt, childIn, nameIn}
 use Rattle.parts.proofs.Places.{Stands, stands-length, stands-after, past-shape, leb-at, Of, of-bare, of-named, of-lone, AllOf, past-name, past-items}
 
--- a shape whose payload is a list of items of a kind
+-- a shape whose payload is a list of items of a kind; the list is found wherever the encoding stands
 pub record Listed (t : Shape) (kind : first.Kind) : Type 0 where
-  pub list : listAt (encode t) kind ≡ listing (listStart t) (length (items t))
+  pub list : (s : List ℕ) (at : ℕ) (x : List ℕ) → at ≤ length s → Stands s at (encode t ++ x) → listAt s (at + 3) kind ≡ listing (at + listStart t) (length (items t))
   pub all : AllOf kind (items t)
   pub children : length (children t) ≡ (Walk.shaped kind ⇒ length (items t) ∣ λ _. 0)
   pub names : length (names t) ≡ (Walk.named kind ⇒ length (items t) ∣ λ _. 0)
@@ -73,10 +73,14 @@ name-at s at kind i x (of-bare c n p) q h = cc
 name-at s at kind i x (of-named t c n p b) q h = rw (leb-at s at (length t) (t ++ x) b (text-inside s at t x h) (rw append-assoc at h))
 name-at s at kind i x (of-lone t n p b) q h = rw (leb-at s at (length t) (t ++ x) b (text-inside s at t x h) (rw append-assoc at h))
 
+-- where the encoding is the whole input
+at-root : (t : Shape) (kind : first.Kind) → Listed t kind → listAt (encode t) 3 kind ≡ listing (listStart t) (length (items t))
+at-root t kind l = l .list (encode t) 0 [] (omega arith) (sym (append-nil (encode t))) ∙ ap (λ (n : ℕ). listing n (length (items t))) (omega arith)
+
 module _ (t : Shape) (kind : first.Kind) (l : Listed t kind) (k : ℕ) where
-  pub child-listed : childIn (encode t) kind k (listAt (encode t) kind) ≡ childSaid (got t []) k
+  pub child-listed : childIn (encode t) kind k (listAt (encode t) 3 kind) ≡ childSaid (got t []) k
   unfolding childIn childOf
-  child-listed = rw (l .list, l .children) (go (Walk.shaped kind) refl)
+  child-listed = rw (at-root t kind l, l .children) (go (Walk.shaped kind) refl)
     where
       found : k < length (items t) → Walk.shaped kind ≡ true → childFrom (encode t) (pastName (encode t) (pastItems (encode t) kind k (listStart t)) kind) ≡ toldChild (childOf t k)
       found h q =
@@ -91,9 +95,9 @@ module _ (t : Shape) (kind : first.Kind) (l : Listed t kind) (k : ℕ) where
       go true q = rw q (both (λ a b. a ≡ b) (ltb k (length (items t))) _ _ _ _ (λ p. found (ltb-true _ _ p) q) (λ p. refl))
       go false q = rw (q, le-ltb k 0 (omega arith))
 
-  pub name-listed : nameIn (encode t) kind k (listAt (encode t) kind) ≡ nameSaid (got t []) k
+  pub name-listed : nameIn (encode t) kind k (listAt (encode t) 3 kind) ≡ nameSaid (got t []) k
   unfolding nameIn
-  name-listed = rw (l .list, l .names) (go (Walk.named kind) refl)
+  name-listed = rw (at-root t kind l, l .names) (go (Walk.named kind) refl)
     where
       found : k < length (items t) → Walk.named kind ≡ true → nameFrom (encode t) (pastItems (encode t) kind k (listStart t)) ≡ name.Text (namePlace t k) (length (nameText t k))
       found h q =

@@ -25,7 +25,7 @@ use Rattle.leaves.specs.declared.Leb.the-variants.{Number}
 use Rattle.reader.specs.First.{firstSaid}
 use Rattle.reader.specs.Walk as Walk
 use Rattle.reader.specs.declared.first.Kind as first
-use Rattle.parts.specs.Steps.{pastLong, pastFirst, pastShape, pastText, pastName, pastItem, pastItems}
+use Rattle.parts.specs.Steps.{firstAt, pastLong, pastFirst, pastShape, pastText, pastName, pastItem, pastItems}
 
 -- a list stands at a place of the input, up to its end
 abbrev pub Stands : List ℕ → ℕ → List ℕ → Type 0
@@ -44,7 +44,7 @@ module _ (s : List ℕ) (at : ℕ) (w : List ℕ) (h : Stands s at w) where
 pub stands-after : (s : List ℕ) (at : ℕ) (p q : List ℕ) → Stands s at (p ++ q) → Stands s (at + length p) q
 stands-after s at p q h = sym (drop-drop (length p) at s) ∙ ap (drop (length p)) h ∙ drop-append-seam p q
 
-past-long : (s : List ℕ) (at : ℕ) (k : Kind) (q x : List ℕ) → Stands s at (sized k q ++ x) → pastLong s at ≡ at + length (sized k q)
+pub past-long : (s : List ℕ) (at : ℕ) (k : Kind) (q x : List ℕ) → Stands s at (sized k q ++ x) → pastLong s at ≡ at + length (sized k q)
 unfolding pastLong
 past-long s at k q x h =
     let l = stands-length s at _ h in
@@ -54,7 +54,7 @@ past-long s at k q x h =
     rw (a, b, two-value (length q), le-ltb (length s - at) 3 (omega arith), le-ltb (length s - at - 3) (length q) (omega arith)) (omega arith)
 
 pub past-shape : (s : List ℕ) (at : ℕ) (c : Shape) (x : List ℕ) → Stands s at (encode c ++ x) → pastShape s at ≡ at + length (encode c)
-unfolding pastShape
+unfolding pastShape firstAt
 past-shape s at c x h = rw (lt-leb (length s) at some) (go (head-of c))
   where
     some : at < length s

@@ -1,113 +1,34 @@
 -- The steps over an accepted encoding find what the meaning says of its shape's children and names.
 --     child-steps, name-steps     of every shape within the limits
 -- Assumes nothing.
-use mathlib.Core.Path.{_≡_, refl, sym, ap, ap₂, _∙_}
+use mathlib.Core.Path.{_≡_, refl, ap, ap₂, _∙_}
 use mathlib.Core.Bool.{Bool, true, false}
 use mathlib.Core.Option.{Option, none, some}
 use mathlib.Core.List.{List, [], _∷_, _++_}
-use Prim.Native.Nat.{ℕ, zero, suc, _+_, _-_, _/_, _%_, _≤_, _<_}
+use Prim.Native.Nat.{ℕ, zero, suc, _-_, _/_, _%_, _≤_, _<_}
 use native.Mathlib.Omega.{arith}
-use lib.ListN.{length, length-append}
+use lib.ListN.{length}
 use lib.Dec.{ltb, eqb}
 use borrow.Author.Tests.{ltb-true, le-ltb, lt-ltb, lt-leb, ne-eqb}
 use Rattle.meaning.specs.Rules.{_⇒_∣_}
 use Rattle.meaning.specs.Refusals.{noSuchPart}
 use Rattle.meaning.specs.Numbers.{twoBytes, leb128}
-use Rattle.meaning.specs.Shape.{Text, Primitive, Tree, fields, parameters, Shape, prim, blank, arrayOf, mapOf, recordOf, functionOf, symbolOf, noFields, field, noParameters, parameter, count}
+use Rattle.meaning.specs.Shape.{Primitive, Shape, prim, blank, arrayOf, mapOf, recordOf, functionOf, symbolOf, count}
 use Rattle.meaning.specs.FirstByte.{code, shortBlanks, primByte, arrayByte, mapByte, classOf}
 use Rattle.meaning.specs.FirstByte as Meant
 use Rattle.meaning.specs.Encode.{sized, asPrim, arrayBytes, mapBytes, blankBytes, textsBytes, encode}
 use Rattle.meaning.specs.Reading.{got, hasShort}
-use Rattle.meaning.specs.Parts.{bare, fieldItems, parameterItems, textItems, items, listStart, children, names, childOf}
-use Rattle.meaning.proofs.Lists.{fields-count, parameters-count, texts-count, field-shapes, field-names, parameter-shapes}
-use Rattle.meaning.proofs.Complete.{count-le, texts-le, class-prim, class-array, class-map, class-blank, class-kind, code-small}
-use Rattle.leaves.specs.Leb.{lebAt}
+use Rattle.meaning.specs.Parts.{items, children, names, childOf}
+use Rattle.meaning.proofs.Complete.{class-prim, class-array, class-map, class-blank, class-kind, code-small}
 use Rattle.reader.specs.First.{kindSaid}
 use Rattle.reader.specs.declared.first.Kind.the-variants.{Array, Map, Record, Function, Symbol, Variable}
 use Rattle.parts.specs.declared.Listing.{Listing}
 use Rattle.parts.specs.declared.FoundChild.the-variants as child
 use Rattle.parts.specs.declared.FoundName.the-variants as name
 use Rattle.parts.specs.Said.{childSaid, nameSaid}
-use Rattle.parts.specs.Steps.{listing, countedBy, listAt, childIn, nameIn, packedChild, childBy, nameWith, childSteps, nameSteps}
-use Rattle.parts.proofs.Places.{leb-at, of-bare, of-named, of-lone, AllOf}
-use Rattle.parts.proofs.Listed.{Listed, child-listed, name-listed}
-
--- a count is read, and the list starts after it
-counted : (k : Meant.Kind) (n more m : ℕ) (y : List ℕ) → n < 16384 → n + more ≡ m
-    → countedBy more (lebAt (sized k (leb128 n ++ y)) (length (sized k (leb128 n ++ y))) 3) ≡ listing (3 + length (leb128 n)) m
-counted k n more m y h e = rw (leb-at (sized k (leb128 n ++ y)) 3 n y h (omega arith) refl, e)
-
-fields-all : (f : Tree fields) → length (encode f) < 16384 → AllOf Record (fieldItems f)
-unfolding fieldItems encode
-fields-all noFields h = tt
-fields-all (field n s f) h = let k = simp length-append at h in (of-named n s refl refl (omega arith), fields-all f (omega arith))
-
-parameters-all : (p : Tree parameters) (r : Shape) → AllOf Function (parameterItems p ++ (bare r ∷ []))
-unfolding parameterItems
-parameters-all noParameters r = (of-bare r refl refl, tt)
-parameters-all (parameter s p) r = (of-bare s refl refl, parameters-all p r)
-
-texts-all : (ts : List Text) → length (textsBytes ts) < 16384 → AllOf Symbol (textItems ts)
-unfolding textItems textsBytes
-texts-all [] h = tt
-texts-all (t ∷ ts) h = let k = simp length-append at h in (of-lone t refl refl (omega arith), texts-all ts (omega arith))
-
--- each shape that has a list in its payload
-array-listed : (s : Shape) → hasShort (arrayOf s) ≡ false → Listed (arrayOf s) Array
-unfolding items listStart children names encode listAt hasShort arrayBytes
-array-listed s h = record {
-  list = refl;
-  all = (of-bare s refl refl, tt);
-  children = refl;
-  names = refl;
-  long = h;
-}
-
-map-listed : (s t : Shape) → hasShort (mapOf s t) ≡ false → Listed (mapOf s t) Map
-unfolding items listStart children names encode listAt hasShort
-map-listed s t h = record {
-  list = refl;
-  all = (of-bare s refl refl, (of-bare t refl refl, tt));
-  children = refl;
-  names = refl;
-  long = h;
-}
-
-record-listed : (f : Tree fields) → length (encode (recordOf f)) ≤ 16384 → Listed (recordOf f) Record
-unfolding items listStart children names encode listAt hasShort
-record-listed f h =
-    let k = simp length-append at h in let c = count-le f in let z : count f + 0 ≡ length (fieldItems f) = omega (arith, fields-count f) in
-    record {
-      list = counted Meant.rec (count f) 0 (length (fieldItems f)) (encode f) (omega arith) z;
-      all = fields-all f (omega arith);
-      children = field-shapes f;
-      names = field-names f;
-      long = refl;
-    }
-
-function-listed : (p : Tree parameters) (r : Shape) → length (encode (functionOf p r)) ≤ 16384 → Listed (functionOf p r) Function
-unfolding items listStart children names encode listAt hasShort
-function-listed p r h =
-    let k = simp length-append at h in let c = count-le p in
-    record {
-      list = counted Meant.function (count p) 1 (length (parameterItems p ++ (bare r ∷ []))) (encode p ++ encode r) (omega arith) (sym (parameters-count p r));
-      all = parameters-all p r;
-      children = parameter-shapes p r;
-      names = refl;
-      long = refl;
-    }
-
-symbol-listed : (ts : List Text) → length (encode (symbolOf ts)) ≤ 16384 → Listed (symbolOf ts) Symbol
-unfolding items listStart children names encode listAt hasShort
-symbol-listed ts h =
-    let k = simp length-append at h in let c = texts-le ts in let z : length ts + 0 ≡ length (textItems ts) = omega (arith, texts-count ts) in
-    record {
-      list = counted Meant.symbol (length ts) 0 (length (textItems ts)) (textsBytes ts) (omega arith) z;
-      all = texts-all ts (omega arith);
-      children = refl;
-      names = sym (texts-count ts);
-      long = refl;
-    }
+use Rattle.parts.specs.Steps.{headSize, firstAt, listAt, childIn, nameIn, packedChild, childBy, nameWith, childSteps, nameSteps}
+use Rattle.parts.proofs.Listed.{child-listed, name-listed}
+use Rattle.parts.proofs.Lists.{array-listed, map-listed, record-listed, function-listed, symbol-listed}
 
 -- a shape without children, without names
 no-child : (t : Shape) (k : ℕ) → length (children t) ≡ 0 → child.Refused noSuchPart 0 ≡ childSaid (got t []) k
@@ -118,21 +39,21 @@ no-name t k h = rw (h, le-ltb k 0 (omega arith))
 
 -- a byte that is a shape without children
 low-child : (b k : ℕ) (t : Shape) → classOf b ≡ Meant.whole t → b < 96 → childSteps (b ∷ []) k ≡ child.Refused noSuchPart 0
-unfolding childSteps childBy packedChild
+unfolding childSteps childBy firstAt packedChild
 low-child b k t c h = rw (c, lt-ltb b 96 h)
 
 low-name : (b k : ℕ) (f : Bool) (t : Shape) → classOf b ≡ (f ⇒ Meant.whole t ∣ λ _. Meant.packed t) → nameSteps (b ∷ []) k ≡ name.Refused noSuchPart 0
-unfolding nameSteps nameWith
+unfolding nameSteps nameWith firstAt
 low-name b k true t c = rw c
 low-name b k false t c = rw c
 
 -- a shape with a payload
-long-child : (s : List ℕ) (kind : Meant.Kind) (q : List ℕ) (k : ℕ) → s ≡ sized kind q → childSteps s k ≡ childIn s (kindSaid kind) k (listAt s (kindSaid kind))
-unfolding childSteps childBy
+long-child : (s : List ℕ) (kind : Meant.Kind) (q : List ℕ) (k : ℕ) → s ≡ sized kind q → childSteps s k ≡ childIn s (kindSaid kind) k (listAt s headSize (kindSaid kind))
+unfolding childSteps childBy firstAt
 long-child s kind q k e = rw (e, lt-leb (length (sized kind q)) 0 (omega arith), class-kind kind)
 
-long-name : (s : List ℕ) (kind : Meant.Kind) (q : List ℕ) (k : ℕ) → s ≡ sized kind q → nameSteps s k ≡ nameIn s (kindSaid kind) k (listAt s (kindSaid kind))
-unfolding nameSteps nameWith
+long-name : (s : List ℕ) (kind : Meant.Kind) (q : List ℕ) (k : ℕ) → s ≡ sized kind q → nameSteps s k ≡ nameIn s (kindSaid kind) k (listAt s headSize (kindSaid kind))
+unfolding nameSteps nameWith firstAt
 long-name s kind q k e = rw (e, lt-leb (length (sized kind q)) 0 (omega arith), class-kind kind)
 
 blank-child : (s : List ℕ) (k : ℕ) (l : Listing) → childIn s Variable k l ≡ child.Refused noSuchPart 0
@@ -145,7 +66,7 @@ blank-name s k l = refl
 
 -- packed bytes
 packed-array : (s : Shape) (p : Primitive) (k : ℕ) → asPrim s ≡ some p → childSteps (arrayByte (code p) ∷ []) k ≡ childSaid (got (arrayOf s) []) k
-unfolding childSteps childBy packedChild children childOf hasShort items
+unfolding childSteps childBy firstAt packedChild children childOf hasShort items
 packed-array s p k e = rw (class-array p, le-ltb (arrayByte (code p)) 96 (omega arith), lt-ltb (arrayByte (code p)) 101 (omega (arith, code-small p))) (go k)
   where
     go : (k : ℕ) → (eqb k 0 ⇒ child.Primitive (arrayByte (code p) - 96) ∣ λ _. child.Refused noSuchPart 1) ≡ childSaid (got (arrayOf s) []) k
@@ -153,7 +74,7 @@ packed-array s p k e = rw (class-array p, le-ltb (arrayByte (code p)) 96 (omega 
     go (suc k) = rw (ne-eqb (suc k) 0 (omega arith), le-ltb (suc k) 1 (omega arith))
 
 packed-map : (s t : Shape) (p q : Primitive) (k : ℕ) → asPrim s ≡ some p → asPrim t ≡ some q → childSteps (mapByte (code p) (code q) ∷ []) k ≡ childSaid (got (mapOf s t) []) k
-unfolding childSteps childBy packedChild children childOf hasShort items
+unfolding childSteps childBy firstAt packedChild children childOf hasShort items
 packed-map s t p q k e f = rw (class-map p q, le-ltb b 96 (omega arith), le-ltb b 101 (omega arith)) (go k)
   where
     b : ℕ
@@ -173,7 +94,7 @@ child-steps (blank n) h k = go (ltb n shortBlanks) refl ∙ no-child (blank n) k
     go true p = rw p (low-child n k (blank n) (class-blank n (ltb-true _ _ p)) (omega (arith, ltb-true n shortBlanks p)))
     go false p =
         let s : List ℕ = sized Meant.variable (twoBytes n) in
-        rw p (long-child s Meant.variable (twoBytes n) k refl ∙ blank-child s k (listAt s Variable))
+        rw p (long-child s Meant.variable (twoBytes n) k refl ∙ blank-child s k (listAt s headSize Variable))
 child-steps (arrayOf s) h k = go (asPrim s) refl
   where
     go : (o : Option Primitive) → asPrim s ≡ o → childSteps (arrayBytes (asPrim s) (encode s)) k ≡ childSaid (got (arrayOf s) []) k
@@ -198,7 +119,7 @@ name-steps (blank n) h k = go (ltb n shortBlanks) refl ∙ no-name (blank n) k r
     go true p = rw p (low-name n k true (blank n) (class-blank n (ltb-true _ _ p)))
     go false p =
         let s : List ℕ = sized Meant.variable (twoBytes n) in
-        rw p (long-name s Meant.variable (twoBytes n) k refl ∙ blank-name s k (listAt s Variable))
+        rw p (long-name s Meant.variable (twoBytes n) k refl ∙ blank-name s k (listAt s headSize Variable))
 name-steps (arrayOf s) h k = go (asPrim s) refl
   where
     go : (o : Option Primitive) → asPrim s ≡ o → nameSteps (arrayBytes (asPrim s) (encode s)) k ≡ nameSaid (got (arrayOf s) []) k

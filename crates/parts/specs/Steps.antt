@@ -1,6 +1,6 @@
 -- NOT TO BE BELIEVED: proved to be what Said.antt says, of every accepted encoding (proofs/Whole.antt). What the private functions do, by places
 -- in the input s. They stay inside s whatever its bytes are, so they ask nothing of their callers.
-use Prim.Native.Nat.{ℕ, zero, suc, _+_, _-_, _/_, _%_}
+use Prim.Native.Nat.{ℕ, zero, suc, _+_, _-_, _/_, _%_, _<_, _≤_, max}
 use mathlib.Core.List.{List}
 use lib.ListN.{length, getD}
 use lib.Dec.{ltb, leb, eqb}
@@ -22,22 +22,36 @@ use Rattle.parts.specs.declared.FoundChild.the-variants as child
 use Rattle.parts.specs.declared.FoundName.{FoundName}
 use Rattle.parts.specs.declared.FoundName.the-variants as name
 
+-- the first byte and the payload's size
+abbrev pub headSize : ℕ
+headSize = 3
+
+-- what the first byte at a place says; past the end nothing is assigned
+unfoldable pub firstAt : List ℕ → ℕ → First
+firstAt s at =
+    leb (length s) at ⇒ Unassigned ∣ λ _.
+    firstSaid (classOf (getD s at 0))
+
+-- where something is assigned, a byte stands
+abbrev pub FirstInside : List ℕ → ℕ → First → Type 0
+FirstInside s at Unassigned = Unit {0}
+FirstInside s at (Short levels) = (at < length s) × (levels ≤ 2)
+FirstInside s at (Long kind) = at < length s
+
 -- the place after the shape at a place, by its head
 unfoldable pub pastLong : List ℕ → ℕ → ℕ
 pastLong s at =
-    ltb (length s - at) 3 ⇒ at ∣ λ _.
-    ltb (length s - at - 3) (sizeAt s (at + 1)) ⇒ at ∣ λ _.
-    at + 3 + sizeAt s (at + 1)
+    ltb (length s - at) headSize ⇒ at ∣ λ _.
+    ltb (length s - at - headSize) (sizeAt s (at + 1)) ⇒ at ∣ λ _.
+    at + headSize + sizeAt s (at + 1)
 
 abbrev pub pastFirst : List ℕ → ℕ → First → ℕ
-pastFirst s at Unassigned = at + 1
+pastFirst s at Unassigned = at
 pastFirst s at (Short levels) = at + 1
 pastFirst s at (Long kind) = pastLong s at
 
 unfoldable pub pastShape : List ℕ → ℕ → ℕ
-pastShape s at =
-    leb (length s) at ⇒ at ∣ λ _.
-    pastFirst s at (firstSaid (classOf (getD s at 0)))
+pastShape s at = pastFirst s at (firstAt s at)
 
 -- the place after the text at a place, and after an item's name, where it has one
 abbrev pub pastLeb : List ℕ → ℕ → Leb → ℕ
@@ -69,21 +83,25 @@ nameBy (Number size start) = name.Text start size
 unfoldable pub nameFrom : List ℕ → ℕ → FoundName
 nameFrom s at = nameBy (lebAt s (length s) at)
 
--- where the list of the root's payload starts, after the head and any count, and how many items it has
+-- the list of a payload: where it starts, after any count, and how many items it has
 abbrev pub listing : ℕ → ℕ → Listing
 listing from count = record { from = from; count = count }
 
-abbrev pub countedBy : ℕ → Leb → Listing
-countedBy more (Fault number) = listing 3 0
-countedBy more (Number count next) = listing next (count + more)
+abbrev pub countedBy : ℕ → ℕ → Leb → Listing
+countedBy start more (Fault number) = listing start 0
+countedBy start more (Number count next) = listing next (count + more)
 
-unfoldable pub listAt : List ℕ → Kind → Listing
-listAt s Array = listing 3 1
-listAt s Map = listing 3 2
-listAt s Record = countedBy 0 (lebAt s (length s) 3)
-listAt s Function = countedBy 1 (lebAt s (length s) 3)
-listAt s Symbol = countedBy 0 (lebAt s (length s) 3)
-listAt s Variable = listing 3 0
+unfoldable pub listAt : List ℕ → ℕ → Kind → Listing
+listAt s start Array = listing start 1
+listAt s start Map = listing start 2
+listAt s start Record = countedBy start 0 (lebAt s (length s) start)
+listAt s start Function = countedBy start 1 (lebAt s (length s) start)
+listAt s start Symbol = countedBy start 0 (lebAt s (length s) start)
+listAt s start Variable = listing start 0
+
+-- what every list has: it starts after the payload's start, inside the input if that is, and its items are few
+abbrev pub ListingInside : List ℕ → ℕ → Listing → Type 0
+ListingInside s start l = (start ≤ l .from) × (l .from ≤ max start (length s)) × (l .count ≤ 16384)
 
 -- child k and name k of a shape with a payload
 unfoldable pub childIn : List ℕ → Kind → ℕ → Listing → FoundChild
@@ -109,19 +127,15 @@ packedChild b k =
 unfoldable pub childBy : List ℕ → ℕ → First → FoundChild
 childBy s k Unassigned = child.Refused noSuchPart 0
 childBy s k (Short levels) = packedChild (getD s 0 0) k
-childBy s k (Long kind) = childIn s kind k (listAt s kind)
+childBy s k (Long kind) = childIn s kind k (listAt s headSize kind)
 
 unfoldable pub nameWith : List ℕ → ℕ → First → FoundName
 nameWith s k Unassigned = name.Refused noSuchPart 0
 nameWith s k (Short levels) = name.Refused noSuchPart 0
-nameWith s k (Long kind) = nameIn s kind k (listAt s kind)
+nameWith s k (Long kind) = nameIn s kind k (listAt s headSize kind)
 
 unfoldable pub childSteps : List ℕ → ℕ → FoundChild
-childSteps s k =
-    leb (length s) 0 ⇒ child.Refused noSuchPart 0 ∣ λ _.
-    childBy s k (firstSaid (classOf (getD s 0 0)))
+childSteps s k = childBy s k (firstAt s 0)
 
 unfoldable pub nameSteps : List ℕ → ℕ → FoundName
-nameSteps s k =
-    leb (length s) 0 ⇒ name.Refused noSuchPart 0 ∣ λ _.
-    nameWith s k (firstSaid (classOf (getD s 0 0)))
+nameSteps s k = nameWith s k (firstAt s 0)

@@ -1,5 +1,5 @@
 // Children and names of an accepted shape, in place (01-scope.md, "Children and names"): the bytes are judged once, and then the root's own list
-// is gone through once; a child is passed over by its head and not read again.
+// is gone through once; a child is passed over by its head and not read again. The steps over an accepted encoding serve other calls too.
 use leaves::Leb;
 use leaves::refusals::NO_SUCH_PART;
 use reader::Judgement;
@@ -8,12 +8,15 @@ use reader::first::Kind;
 use reader::first::PACKED;
 use reader::first::PACKED_MAPS;
 ghost use mathlib.Core.Path.{_≡_};
-ghost use Prim.Native.Nat.{_≤_};
+ghost use Prim.Native.Nat.{_≤_, max};
 ghost use lib.ListN.{length};
 ghost use Rattle.meaning.specs.Reading.{reading};
 ghost use Rattle.leaves.specs.Leb.{lebAt};
 ghost use Rattle.parts.specs.Said.{childSaid, nameSaid};
-ghost use Rattle.parts.specs.Steps.{pastLong, pastShape, pastText, pastName, pastItem, pastItems, childFrom, nameFrom, countedBy, listAt, childIn, nameIn, packedChild, childSteps, nameSteps};
+ghost use Rattle.parts.specs.Steps.{firstAt, FirstInside, pastLong, pastShape, pastText, pastName, pastItem, pastItems, childFrom, nameFrom, countedBy, listAt, ListingInside, childIn, nameIn, packedChild, childSteps, nameSteps};
+
+// The first byte and the payload's size.
+pub const HEAD_SIZE: usize = 3;
 
 // Child k: place and length in the parent, or a primitive's number where the parent is packed, or a refusal.
 pub enum FoundChild {
@@ -29,19 +32,31 @@ pub enum FoundName {
 }
 
 // The place after the shape with a payload at a place.
-fn past_long(s: &[u8], at: usize) -> usize
+pub fn past_long(s: &[u8], at: usize) -> usize
     requires { ⌜ at ≤ length (now s) ⌝ }
     ensures is { λ r. ⌜ r ≡ pastLong (now (s .entry)) at ⌝ }
     ensures onward { λ r. ⌜ at ≤ r ⌝ }
+    ensures inside { λ r. ⌜ r ≤ length (now (s .entry)) ⌝ }
 {
-    if s.len() - at < 3 {
+    if s.len() - at < HEAD_SIZE {
         return at;
     }
     let size = leaves::two_at(s, at + 1);
-    if s.len() - at - 3 < size {
+    if s.len() - at - HEAD_SIZE < size {
         return at;
     }
-    at + 3 + size
+    at + HEAD_SIZE + size
+}
+
+// What the first byte at a place says; past the end nothing is assigned.
+pub fn first_at(s: &[u8], at: usize) -> First
+    ensures is { λ r. ⌜ r ≡ firstAt (now (s .entry)) at ⌝ }
+    ensures inside { λ r. ⌜ FirstInside (now (s .entry)) at r ⌝ }
+{
+    if s.len() <= at {
+        return First::Unassigned;
+    }
+    reader::first::first_of(s[at])
 }
 
 // The place after the shape at a place, by its head.
@@ -49,11 +64,8 @@ fn past_shape(s: &[u8], at: usize) -> usize
     ensures is { λ r. ⌜ r ≡ pastShape (now (s .entry)) at ⌝ }
     ensures onward { λ r. ⌜ at ≤ r ⌝ }
 {
-    if s.len() <= at {
-        return at;
-    }
-    match reader::first::first_of(s[at]) {
-        First::Unassigned => at + 1,
+    match first_at(s, at) {
+        First::Unassigned => at,
         First::Short { levels: _ } => at + 1,
         First::Long { kind: _ } => past_long(s, at),
     }
@@ -61,7 +73,8 @@ fn past_shape(s: &[u8], at: usize) -> usize
 
 // The place after the text whose length stands at a place.
 fn past_text(s: &[u8], at: usize) -> usize
-    ensures { λ r. ⌜ r ≡ pastText (now (s .entry)) at ⌝ }
+    ensures is { λ r. ⌜ r ≡ pastText (now (s .entry)) at ⌝ }
+    ensures inside { λ r. ⌜ (at ≤ r) × (r ≤ max at (length (now (s .entry)))) ⌝ }
 {
     match leaves::leb128(s, s.len(), at) {
         Leb::Fault { number: _ } => at,
@@ -76,8 +89,9 @@ fn past_text(s: &[u8], at: usize) -> usize
 }
 
 // The place after an item's name, where its kind has names.
-fn past_name(s: &[u8], at: usize, kind: Kind) -> usize
-    ensures { λ r. ⌜ r ≡ pastName (now (s .entry)) at kind ⌝ }
+pub fn past_name(s: &[u8], at: usize, kind: Kind) -> usize
+    ensures is { λ r. ⌜ r ≡ pastName (now (s .entry)) at kind ⌝ }
+    ensures inside { λ r. ⌜ (at ≤ r) × (r ≤ max at (length (now (s .entry)))) ⌝ }
 {
     if reader::payload::named_kind(kind) {
         past_text(s, at)
@@ -138,19 +152,23 @@ fn name_from(s: &[u8], at: usize) -> FoundName
     }
 }
 
-// The list of the root's payload: where it starts and how many items it has.
+// The list of a payload: where it starts and how many items it has.
 pub struct Listing {
     pub from: usize,
     pub count: usize,
 }
 
-// A list with its count before it; a Function's return is one item more.
-fn counted_list(s: &[u8], more: usize) -> Listing
+// A list with its count before it, at the payload's start; a Function's return is one item more.
+fn counted_list(s: &[u8], start: usize, more: usize) -> Listing
     requires { ⌜ more ≤ 1 ⌝ }
-    ensures { λ r. ⌜ r ≡ countedBy more (lebAt (now (s .entry)) (length (now (s .entry))) 3) ⌝ }
+    ensures is { λ r. ⌜ r ≡ countedBy start more (lebAt (now (s .entry)) (length (now (s .entry))) start) ⌝ }
+    ensures inside { λ r. ⌜ ListingInside (now (s .entry)) start r ⌝ }
 {
-    match leaves::leb128(s, s.len(), 3) {
-        Leb::Fault { number: _ } => Listing { from: 3, count: 0 },
+    match leaves::leb128(s, s.len(), start) {
+        Leb::Fault { number: _ } => Listing {
+            from: start,
+            count: 0,
+        },
         Leb::Number { value, next } => Listing {
             from: next,
             count: value + more,
@@ -158,17 +176,27 @@ fn counted_list(s: &[u8], more: usize) -> Listing
     }
 }
 
-// The list of an accepted encoding's payload, by its kind.
-fn list_at(s: &[u8], kind: Kind) -> Listing
-    ensures { λ r. ⌜ r ≡ listAt (now (s .entry)) kind ⌝ }
+// The list of an accepted encoding's payload, from the payload's start on, by its kind.
+pub fn list_at(s: &[u8], start: usize, kind: Kind) -> Listing
+    ensures is { λ r. ⌜ r ≡ listAt (now (s .entry)) start kind ⌝ }
+    ensures inside { λ r. ⌜ ListingInside (now (s .entry)) start r ⌝ }
 {
     match kind {
-        Kind::Array => Listing { from: 3, count: 1 },
-        Kind::Map => Listing { from: 3, count: 2 },
-        Kind::Record => counted_list(s, 0),
-        Kind::Function => counted_list(s, 1),
-        Kind::Symbol => counted_list(s, 0),
-        Kind::Variable => Listing { from: 3, count: 0 },
+        Kind::Array => Listing {
+            from: start,
+            count: 1,
+        },
+        Kind::Map => Listing {
+            from: start,
+            count: 2,
+        },
+        Kind::Record => counted_list(s, start, 0),
+        Kind::Function => counted_list(s, start, 1),
+        Kind::Symbol => counted_list(s, start, 0),
+        Kind::Variable => Listing {
+            from: start,
+            count: 0,
+        },
     }
 }
 
@@ -259,19 +287,13 @@ fn packed_child(b: u8, k: u64) -> FoundChild
 fn child_of(s: &[u8], k: u64) -> FoundChild
     ensures { λ r. ⌜ r ≡ childSteps (now (s .entry)) k ⌝ }
 {
-    if s.len() <= 0 {
-        return FoundChild::Refused {
-            number: NO_SUCH_PART,
-            place: 0,
-        };
-    }
-    match reader::first::first_of(s[0]) {
+    match first_at(s, 0) {
         First::Unassigned => FoundChild::Refused {
             number: NO_SUCH_PART,
             place: 0,
         },
         First::Short { levels: _ } => packed_child(s[0], k),
-        First::Long { kind } => child_in(s, kind, k, list_at(s, kind)),
+        First::Long { kind } => child_in(s, kind, k, list_at(s, HEAD_SIZE, kind)),
     }
 }
 
@@ -279,13 +301,7 @@ fn child_of(s: &[u8], k: u64) -> FoundChild
 fn name_of(s: &[u8], k: u64) -> FoundName
     ensures { λ r. ⌜ r ≡ nameSteps (now (s .entry)) k ⌝ }
 {
-    if s.len() <= 0 {
-        return FoundName::Refused {
-            number: NO_SUCH_PART,
-            place: 0,
-        };
-    }
-    match reader::first::first_of(s[0]) {
+    match first_at(s, 0) {
         First::Unassigned => FoundName::Refused {
             number: NO_SUCH_PART,
             place: 0,
@@ -294,7 +310,7 @@ fn name_of(s: &[u8], k: u64) -> FoundName
             number: NO_SUCH_PART,
             place: 0,
         },
-        First::Long { kind } => name_in(s, kind, k, list_at(s, kind)),
+        First::Long { kind } => name_in(s, kind, k, list_at(s, HEAD_SIZE, kind)),
     }
 }
 

@@ -13,7 +13,7 @@ returns c =
     let n = c .before in
     let t = n .before .before in
     let k = t .before .before in
-    rw (← k .shaped-kind .ensures, t .before .if1 .taken, lt-ltb _ _ (t .if2 .taken), ← n .before .past-items .ensures, ← n .past-name .ensures) (c .child-from .ensures)
+    rw (← k .shaped-kind .ensures, t .before .if1 .taken, lt-ltb _ _ (t .if2 .taken), ← n .before .past-items .ensures, ← n .past-name .ensures .0) (c .child-from .ensures)
 
 returns-2 : tie.Need-returns-2
 unfolding childIn

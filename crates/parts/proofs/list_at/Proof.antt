@@ -1,5 +1,6 @@
 -- `parts::list_at` meets its contract.
 -- Assumes nothing.
+use mathlib.Core.Path.{refl}
 use borrow.Author.Needs.{needs}
 use Rattle.parts.specs.Steps.{listAt}
 use Rattle.parts.proofs.list_at.Statement.{statement}
@@ -7,11 +8,11 @@ use Rattle.parts.proofs.list_at.Tie as tie
 
 returns : tie.Need-returns
 unfolding listAt
-returns c = rw (c .enum-told .given .1)
+returns c = rw (c .enum-told .given .1) (refl, search needs)
 
 returns-2 : tie.Need-returns-2
 unfolding listAt
-returns-2 c = rw (c .enum-told2 .given .1)
+returns-2 c = rw (c .enum-told2 .given .1) (refl, search needs)
 
 returns-3 : tie.Need-returns-3
 unfolding listAt
@@ -27,7 +28,7 @@ returns-5 c = rw (c .before .enum-told5 .given .1) (c .counted-list3 .ensures)
 
 returns-6 : tie.Need-returns-6
 unfolding listAt
-returns-6 c = rw (c .enum-told6 .given .1)
+returns-6 c = rw (c .enum-told6 .given .1) (refl, search needs)
 
 pub list-at-spec : {M : Type 1} → statement M
 list-at-spec =

@@ -9,11 +9,11 @@ returns : tie.Need-returns
 unfolding pastItem
 returns c =
     let b = c .before .before in
-    rw (← b .shaped-kind .ensures, c .before .if1 .taken, ← b .before .past-name .ensures) (c .past-shape .ensures .0)
+    rw (← b .shaped-kind .ensures, c .before .if1 .taken, ← b .before .past-name .ensures .0) (c .past-shape .ensures .0)
 
 returns-2 : tie.Need-returns-2
 unfolding pastItem
-returns-2 c = rw (← c .before .shaped-kind .ensures, c .if1 .left) (c .before .before .past-name .ensures)
+returns-2 c = rw (← c .before .shaped-kind .ensures, c .if1 .left) (c .before .before .past-name .ensures .0)
 
 pub past-item-spec : {M : Type 1} → statement M
 past-item-spec =

@@ -1,5 +1,6 @@
 -- `parts::past_name` meets its contract.
 -- Assumes nothing.
+use mathlib.Core.Path.{refl}
 use borrow.Author.Needs.{needs}
 use Rattle.parts.specs.Steps.{pastName}
 use Rattle.parts.proofs.past_name.Statement.{statement}
@@ -11,7 +12,7 @@ returns c = rw (← c .before .before .named-kind .ensures, c .before .if1 .take
 
 returns-2 : tie.Need-returns-2
 unfolding pastName
-returns-2 c = rw (← c .before .named-kind .ensures, c .if1 .left)
+returns-2 c = rw (← c .before .named-kind .ensures, c .if1 .left) (refl, search needs)
 
 pub past-name-spec : {M : Type 1} → statement M
 past-name-spec = tie.close (tie.spec (λ c κs. search needs) (λ c κs. search needs) returns returns-2)

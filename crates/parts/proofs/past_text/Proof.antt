@@ -1,5 +1,6 @@
 -- `parts::past_text` meets its contract.
 -- Assumes nothing.
+use mathlib.Core.Path.{refl}
 use borrow.Author.Needs.{needs}
 use native.Mathlib.Omega.{arith}
 use Rattle.meaning.proofs.Rules.{tests}
@@ -12,15 +13,18 @@ sub-if1 c = let h = rw (c .before .value .given .1) at (c .before .before .befor
 
 returns : tie.Need-returns
 unfolding pastText
-returns c = rw (← c .before .before .leb128 .ensures .0, c .enum-told .given .1)
+returns c = rw (← c .before .before .leb128 .ensures .0, c .enum-told .given .1) (refl, search needs)
 
 returns-2 : tie.Need-returns-2
 unfolding pastText
-returns-2 c = let b = c .before .before in rw (← b .before .before .leb128 .ensures .0, b .value .given .1) (search tests)
+returns-2 c = let b = c .before .before in rw (← b .before .before .leb128 .ensures .0, b .value .given .1) (search tests, search needs)
 
 returns-3 : tie.Need-returns-3
 unfolding pastText
-returns-3 c = let b = c .before .before in rw (← b .before .before .leb128 .ensures .0, b .value .given .1) (search tests)
+returns-3 c =
+    let b = c .before .before in
+    let h = rw (b .value .given .1) at (b .before .before .leb128 .ensures .1) in
+    rw (← b .before .before .leb128 .ensures .0, b .value .given .1) (search tests, search needs)
 
 pub past-text-spec : {M : Type 1} → statement M
 past-text-spec =

@@ -1,0 +1,104 @@
+-- Each shape that has a list in its payload is listed: wherever its encoding stands, its list is found there.
+--     array-listed, map-listed, record-listed, function-listed, symbol-listed
+--     fields-all, parameters-all     the items of a list are of its kind
+-- Assumes nothing.
+use mathlib.Core.Path.{_≡_, refl, sym}
+use mathlib.Core.Bool.{false}
+use mathlib.Core.List.{List, [], _∷_, _++_, append-assoc}
+use Prim.Native.Nat.{ℕ, _+_, _≤_, _<_}
+use native.Mathlib.Omega.{arith}
+use lib.ListN.{length, length-append}
+use Rattle.meaning.specs.Numbers.{twoBytes, leb128}
+use Rattle.meaning.specs.Shape.{Text, Tree, fields, parameters, Shape, arrayOf, mapOf, recordOf, functionOf, symbolOf, noFields, field, noParameters, parameter, count}
+use Rattle.meaning.specs.FirstByte as Meant
+use Rattle.meaning.specs.Encode.{sized, arrayBytes, textsBytes, encode}
+use Rattle.meaning.specs.Reading.{hasShort}
+use Rattle.meaning.specs.Parts.{bare, fieldItems, parameterItems, textItems, items, listStart, children, names}
+use Rattle.meaning.proofs.Lists.{fields-count, parameters-count, texts-count, field-shapes, field-names, parameter-shapes}
+use Rattle.meaning.proofs.Complete.{count-le, texts-le}
+use Rattle.leaves.specs.Leb.{lebAt}
+use Rattle.reader.specs.declared.first.Kind.the-variants.{Array, Map, Record, Function, Symbol}
+use Rattle.parts.specs.Steps.{listing, countedBy, listAt}
+use Rattle.parts.proofs.Places.{Stands, stands-length, stands-after, leb-at, of-bare, of-named, of-lone, AllOf}
+use Rattle.parts.proofs.Listed.{Listed}
+
+-- a count is read, and the list starts after it
+counted : (k : Meant.Kind) (n more m : ℕ) (y : List ℕ) → n < 16384 → n + more ≡ m → (s : List ℕ) (at : ℕ) (x : List ℕ) → Stands s at (sized k (leb128 n ++ y) ++ x)
+    → countedBy (at + 3) more (lebAt s (length s) (at + 3)) ≡ listing (at + (3 + length (leb128 n))) m
+counted k n more m y h e s at x g =
+    let l = stands-length s at _ g in
+    let z : at + (3 + length (leb128 n)) ≡ at + 3 + length (leb128 n) = omega arith in
+    rw (leb-at s (at + 3) n (y ++ x) h (omega arith) (rw append-assoc at (stands-after s at (Meant.kindByte k ∷ twoBytes (length (leb128 n ++ y))) ((leb128 n ++ y) ++ x) g)), e, z)
+
+-- the items of a list are of its kind, and no name is longer than the whole
+pub fields-all : (f : Tree fields) → length (encode f) < 16384 → AllOf Record (fieldItems f)
+unfolding fieldItems encode
+fields-all noFields h = tt
+fields-all (field n s f) h = let k = simp length-append at h in (of-named n s refl refl (omega arith), fields-all f (omega arith))
+
+pub parameters-all : (p : Tree parameters) (r : Shape) → AllOf Function (parameterItems p ++ (bare r ∷ []))
+unfolding parameterItems
+parameters-all noParameters r = (of-bare r refl refl, tt)
+parameters-all (parameter s p) r = (of-bare s refl refl, parameters-all p r)
+
+texts-all : (ts : List Text) → length (textsBytes ts) < 16384 → AllOf Symbol (textItems ts)
+unfolding textItems textsBytes
+texts-all [] h = tt
+texts-all (t ∷ ts) h = let k = simp length-append at h in (of-lone t refl refl (omega arith), texts-all ts (omega arith))
+
+-- each shape that has a list in its payload
+pub array-listed : (s : Shape) → hasShort (arrayOf s) ≡ false → Listed (arrayOf s) Array
+unfolding items listStart children names encode listAt hasShort arrayBytes
+array-listed s h = record {
+  list = λ w at x i g. refl;
+  all = (of-bare s refl refl, tt);
+  children = refl;
+  names = refl;
+  long = h;
+}
+
+pub map-listed : (s t : Shape) → hasShort (mapOf s t) ≡ false → Listed (mapOf s t) Map
+unfolding items listStart children names encode listAt hasShort
+map-listed s t h = record {
+  list = λ w at x i g. refl;
+  all = (of-bare s refl refl, (of-bare t refl refl, tt));
+  children = refl;
+  names = refl;
+  long = h;
+}
+
+pub record-listed : (f : Tree fields) → length (encode (recordOf f)) ≤ 16384 → Listed (recordOf f) Record
+unfolding items listStart children names encode listAt hasShort
+record-listed f h =
+    let k = simp length-append at h in let c = count-le f in let z : count f + 0 ≡ length (fieldItems f) = omega (arith, fields-count f) in
+    record {
+      list = λ s at x i g. counted Meant.rec (count f) 0 (length (fieldItems f)) (encode f) (omega arith) z s at x g;
+      all = fields-all f (omega arith);
+      children = field-shapes f;
+      names = field-names f;
+      long = refl;
+    }
+
+pub function-listed : (p : Tree parameters) (r : Shape) → length (encode (functionOf p r)) ≤ 16384 → Listed (functionOf p r) Function
+unfolding items listStart children names encode listAt hasShort
+function-listed p r h =
+    let k = simp length-append at h in let c = count-le p in
+    record {
+      list = λ s at x i g. counted Meant.function (count p) 1 (length (parameterItems p ++ (bare r ∷ []))) (encode p ++ encode r) (omega arith) (sym (parameters-count p r)) s at x g;
+      all = parameters-all p r;
+      children = parameter-shapes p r;
+      names = refl;
+      long = refl;
+    }
+
+pub symbol-listed : (ts : List Text) → length (encode (symbolOf ts)) ≤ 16384 → Listed (symbolOf ts) Symbol
+unfolding items listStart children names encode listAt hasShort
+symbol-listed ts h =
+    let k = simp length-append at h in let c = texts-le ts in let z : length ts + 0 ≡ length (textItems ts) = omega (arith, texts-count ts) in
+    record {
+      list = λ s at x i g. counted Meant.symbol (length ts) 0 (length (textItems ts)) (textsBytes ts) (omega arith) z s at x g;
+      all = texts-all ts (omega arith);
+      children = refl;
+      names = sym (texts-count ts);
+      long = refl;
+    }
