@@ -1,2 +1,5 @@
 pub mod Turns
 pub mod Whole
+pub mod Places
+pub mod Indexing
+pub mod Search

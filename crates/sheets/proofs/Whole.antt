@@ -1,5 +1,6 @@
 -- The steps of the sheet check are what reading a sheet means.
 --     steps-checked     so for every list of bytes
+--     sheet-counts      how many entries and bytes a sheet that is read has
 --     checked-place     the place of a broken sheet does not depend on the refusal's number
 -- Assumes nothing.
 use Prim.Native.Nat.{ℕ, zero, suc, _+_, _*_, _-_, _<_}
@@ -35,11 +36,11 @@ use Rattle.sheets.specs.Said.{checked}
 use Rattle.sheets.specs.Steps.{entryPlace, blankAt, lengthAt, entriesFrom, judged, encodingsFrom, secondAt, afterEntries, sheetAt}
 
 -- The number that stands at a place is the one at the front of what is left from there on.
-number-here : (s : List ℕ) (k : ℕ) → numberAt (drop k s) 0 ≡ numberAt s k
+pub number-here : (s : List ℕ) (k : ℕ) → numberAt (drop k s) 0 ≡ numberAt s k
 number-here s k = ap₂ ofTwo (getD-drop k s 0 0 ∙ ap (λ (n : ℕ). getD s n 0) (omega arith)) (getD-drop k s 1 0)
 
 -- So is the one after it.
-number-after : (s : List ℕ) (k : ℕ) → numberAt (drop k s) countSize ≡ numberAt s (k + countSize)
+pub number-after : (s : List ℕ) (k : ℕ) → numberAt (drop k s) countSize ≡ numberAt s (k + countSize)
 number-after s k = ap₂ ofTwo (getD-drop k s 2 0) (getD-drop k s 3 0 ∙ ap (λ (n : ℕ). getD s n 0) (omega arith))
 
 -- What is left from a place on is left from the same place on.
@@ -47,7 +48,7 @@ same-place : (s : List ℕ) (m n : ℕ) → m ≡ n → drop m s ≡ drop n s
 same-place s m n e = rw e
 
 -- After entry i comes the next.
-entry-after : (s : List ℕ) (i : ℕ) → drop entrySize (drop (entryPlace i) s) ≡ drop (entryPlace (i + 1)) s
+pub entry-after : (s : List ℕ) (i : ℕ) → drop entrySize (drop (entryPlace i) s) ≡ drop (entryPlace (i + 1)) s
 entry-after s i = drop-drop entrySize (entryPlace i) s ∙ same-place s (entryPlace i + entrySize) (entryPlace (i + 1)) (omega arith)
 
 -- what entries say: their sum, after t, or which is wrong
@@ -153,7 +154,7 @@ module _ (broken : ℕ) where
       after-are (x ∷ y ∷ w) (ofTwo x y) _ refl)
 
   -- Of bytes that are read as a sheet, its entries are as many as the first count says, and its encodings are what follows the second.
-  sheet-counts : (s : List ℕ) (σ : Sheet) (v : List ℕ) → Bytes s → readSheet broken s ≡ got σ v → (length σ ≡ numberAt s 0) × (length s ≡ entryPlace (numberAt s 0) + countSize + length (encodings σ))
+  pub sheet-counts : (s : List ℕ) (σ : Sheet) (v : List ℕ) → Bytes s → readSheet broken s ≡ got σ v → (length σ ≡ numberAt s 0) × (length s ≡ entryPlace (numberAt s 0) + countSize + length (encodings σ))
   unfolding sheetBytes
   sheet-counts s σ v b h =
       let e = sheet-read broken s σ v b h .0 in
