@@ -1,0 +1,6 @@
+pub mod Bytes
+pub mod Peeks
+pub mod Making
+pub mod Turns
+pub mod Long
+pub mod Whole
