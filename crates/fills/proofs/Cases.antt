@@ -1,0 +1,119 @@
+-- What a fill answers, case by case, from what the code finds out.
+--     found              an accepted template is the encoding of a shape, and the size that was measured is that of the shape, filled
+--     answer-unread      a template that the reader refuses
+--     answer-broken      a sheet that the check refuses
+--     answer-deep, answer-long, answer-short, answer-made     of an accepted template and sheet
+--     buffer-made        the buffer after an answer
+-- Assumes nothing.
+use Prim.Native.Nat.{ℕ, _≤_, _<_}
+use mathlib.Core.Path.{_≡_, refl, _∙_, ap}
+use mathlib.Core.List.{List}
+use native.Mathlib.Nat.{zero-add}
+use native.Mathlib.Omega.{arith}
+use lib.ListN.{length, getD}
+use borrow.Author.Tests.{lt-ltb, le-ltb}
+use Rattle.meaning.specs.Limits.{maxBytes, maxLevels}
+use Rattle.meaning.specs.Refusals.{bufferShort, sheetBroken, madeTooDeep, madeTooLong}
+use Rattle.meaning.specs.Shape.{Shape, depth}
+use Rattle.meaning.specs.Encode.{encode}
+use Rattle.meaning.specs.Reading.{Reading, got, bad, reading}
+use Rattle.meaning.specs.Sheet.{Sheet, plug}
+use Rattle.meaning.specs.SheetReading.{readSheet}
+use Rattle.meaning.specs.Answers.{answered, refused, onto, inRoom, made, fillAnswer, bufferAfter}
+use Rattle.meaning.proofs.Window.{bytes-by-index}
+use Rattle.meaning.proofs.Laws.{by-reading}
+use Rattle.meaning.proofs.SheetBytes.{sheet-refusal}
+use Rattle.leaves.specs.Written.{written}
+use Rattle.reader.specs.declared.Judgement.the-variants.{Accepted, Refused}
+use Rattle.reader.specs.Said.{said}
+use Rattle.sheets.specs.declared.Checked.the-variants.{Broken}
+use Rattle.sheets.specs.Said.{checked}
+use Rattle.sheets.specs.Index.{blankIn, Ready}
+use Rattle.sizes.specs.declared.Size.{Size}
+use Rattle.sizes.specs.Sizes.{sizeOf, MeasureIs}
+use Rattle.fills.specs.Accepted.{IsShape}
+
+-- A template that the reader accepts is a shape.
+pub accepted : (r : Reading Shape) (l d : ℕ) → said r ≡ Accepted l d → IsShape r
+accepted (got t w) l d h = tt
+accepted (bad n p) l d h = let z : _≡_ {A = ℕ} 0 1 = cc in absurd (omega arith)
+
+-- An accepted template is no longer than an encoding may be.
+pub accepted-short : (s : List ℕ) → ((i : ℕ) → getD s i 0 < 256) → IsShape (reading s) → length s ≤ maxBytes
+accepted-short s b = by-reading (λ s r. IsShape r → length s ≤ maxBytes) s (bytes-by-index s b) (λ t w h _. h .short) (λ n q h. absurd h)
+
+-- A template that the reader refuses is refused so, whatever the sheet is.
+pub answer-unread : (template sheet : List ℕ) (room n p : ℕ) → said (reading template) ≡ Refused n p → fillAnswer template sheet room ≡ refused n p
+unfolding fillAnswer onto
+answer-unread template sheet room n p = go (reading template) refl
+  where
+    go : (r : Reading Shape) → reading template ≡ r → said r ≡ Refused n p → fillAnswer template sheet room ≡ refused n p
+    go (got t w) e h = cc
+    go (bad m q) e h = rw e (let a : m ≡ n = cc in let b : q ≡ p = cc in rw (a, b))
+
+-- A sheet that the check refuses is refused with 13, after an accepted template.
+pub answer-broken : (template sheet : List ℕ) (room p : ℕ) → IsShape (reading template) → checked (readSheet sheetBroken sheet) ≡ Broken p → fillAnswer template sheet room ≡ refused sheetBroken p
+unfolding fillAnswer onto
+answer-broken template sheet room p = go (reading template) refl (readSheet sheetBroken sheet) refl
+  where
+    go : (r : Reading Shape) → reading template ≡ r → (q : Reading Sheet) → readSheet sheetBroken sheet ≡ q → IsShape r → checked q ≡ Broken p → fillAnswer template sheet room ≡ refused sheetBroken p
+    go (bad n m) e q f h k = absurd h
+    go (got t w) e (got σ v) f h k = cc
+    go (got t w) e (bad n m) f h k = rw (e, f) (let a = sheet-refusal sheetBroken sheet n m f .0 in let b : m ≡ p = cc in rw (a, b))
+
+-- an accepted template, the shape that it is, and that the size is the shape's, filled
+pub record Found (template sheet : List ℕ) (r : Size) : Type 0 where
+  pub t : Shape
+  pub left : List ℕ
+  pub is : reading template ≡ got t left
+  pub size : r ≡ sizeOf (plug (blankIn sheet) t)
+
+pub found : (template sheet : List ℕ) (r : Size) → IsShape (reading template) → MeasureIs (blankIn sheet) (reading template) r → Found template sheet r
+found template sheet r = go (reading template) refl
+  where
+    go : (q : Reading Shape) → reading template ≡ q → IsShape q → MeasureIs (blankIn sheet) q r → Found template sheet r
+    go (got t w) e h m = record { t = t; left = w; is = e; size = m }
+    go (bad n p) e h m = absurd h
+
+module _ {template sheet index : List ℕ} {r : Size} (room : ℕ) (ready : Ready sheet index) (f : Found template sheet r) where
+  -- the filled shape, which the size is of
+  abbrev filled : Shape
+  filled = plug (blankIn sheet) (f .t)
+
+  pub found-length : r .length ≡ length (encode filled)
+  found-length = ap (λ (s : Size). s .length) (f .size)
+
+  pub found-depth : r .depth ≡ depth filled
+  found-depth = ap (λ (s : Size). s .depth) (f .size)
+
+  -- What is left to be looked at: the filled shape and the room.
+  answer-is : fillAnswer template sheet room ≡ made 0 filled (inRoom room (encode filled))
+  unfolding fillAnswer onto
+  answer-is = rw (f .is, ready .accepted)
+
+  pub answer-deep : maxLevels < r .depth → fillAnswer template sheet room ≡ refused madeTooDeep 0
+  unfolding made
+  answer-deep h = answer-is ∙ rw (lt-ltb maxLevels (depth filled) (omega (arith, found-depth)))
+
+  module _ (d : r .depth ≤ maxLevels) where
+    pub answer-long : maxBytes < r .length → fillAnswer template sheet room ≡ refused madeTooLong 0
+    unfolding made
+    answer-long h = answer-is ∙ rw (le-ltb maxLevels (depth filled) (omega (arith, found-depth)), lt-ltb maxBytes (length (encode filled)) (omega (arith, found-length)))
+
+    module _ (l : r .length ≤ maxBytes) where
+      fits : fillAnswer template sheet room ≡ inRoom room (encode filled)
+      unfolding made
+      fits = answer-is ∙ rw (le-ltb maxLevels (depth filled) (omega (arith, found-depth)), le-ltb maxBytes (length (encode filled)) (omega (arith, found-length)))
+
+      pub answer-short : room < r .length → fillAnswer template sheet room ≡ refused bufferShort (r .length)
+      unfolding inRoom
+      answer-short h = fits ∙ rw (lt-ltb room (length (encode filled)) (omega (arith, found-length)), found-length)
+
+      pub answer-made : r .length ≤ room → fillAnswer template sheet room ≡ answered (encode filled)
+      unfolding inRoom
+      answer-made h = fits ∙ rw (le-ltb room (length (encode filled)) (omega (arith, found-length)))
+
+-- Bytes written from the front on are what the buffer holds after that answer.
+pub buffer-made : (d w : List ℕ) → written d 0 w ≡ bufferAfter d (answered w)
+unfolding written bufferAfter
+buffer-made d w = rw zero-add

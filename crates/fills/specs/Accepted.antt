@@ -1,0 +1,8 @@
+-- What the inner function of fill asks of its template. No public contract cites it.
+use Rattle.meaning.specs.Shape.{Shape}
+use Rattle.meaning.specs.Reading.{Reading, got, bad}
+
+-- the template is accepted
+abbrev pub IsShape : Reading Shape → Type 0
+IsShape (got t w) = Unit {0}
+IsShape (bad number place) = ⊥

@@ -1,0 +1,74 @@
+// Fill (01-scope.md, "Sheets"): the template with all blanks that the sheet names replaced at one moment. It is measured first and written second,
+// so a refusal has written nothing.
+use leaves::limits::MAX_BYTES;
+use leaves::limits::MAX_LEVELS;
+use leaves::refusals::BUFFER_SHORT;
+use leaves::refusals::MADE_TOO_DEEP;
+use leaves::refusals::MADE_TOO_LONG;
+use leaves::refusals::SHEET_BROKEN;
+use reader::Judgement;
+use sheets::Checked;
+use sheets::Made;
+ghost use mathlib.Core.Path.{_≡_};
+ghost use lib.ListN.{length};
+ghost use Rattle.meaning.specs.Reading.{reading};
+ghost use Rattle.meaning.specs.Answers.{fillAnswer, bufferAfter};
+ghost use Rattle.sheets.specs.Said.{madeSaid};
+ghost use Rattle.sheets.specs.Index.{Ready};
+ghost use Rattle.fills.specs.Accepted.{IsShape};
+
+// Fills an accepted template with an accepted sheet.
+fn fill_sound(template: &[u8], sheet: &[u8], index: &[u16], out: &mut [u8]) -> Made
+    requires { ⌜ Ready (now sheet) (now index) × IsShape (reading (now template)) ⌝ }
+    ensures is { λ r. ⌜ r ≡ madeSaid (fillAnswer (now (template .entry)) (now (sheet .entry)) (length (now (out .entry)))) ⌝ }
+    ensures buffer { λ _. ⌜ now (out .exit) ≡ bufferAfter (now (out .entry)) (fillAnswer (now (template .entry)) (now (sheet .entry)) (length (now (out .entry)))) ⌝ }
+{
+    let size = sizes::measure(template, sheet, index);
+    let needed = size.length;
+    if MAX_LEVELS < size.depth {
+        return Made::Refused {
+            number: MADE_TOO_DEEP,
+            place: 0,
+        };
+    }
+    if MAX_BYTES < needed {
+        return Made::Refused {
+            number: MADE_TOO_LONG,
+            place: 0,
+        };
+    }
+    if out.len() < needed {
+        return Made::Refused {
+            number: BUFFER_SHORT,
+            place: needed,
+        };
+    }
+    let length = writes::write(template, sheet, index, out, 0);
+    Made::Written { length }
+}
+
+// Fills a template with a sheet, whatever their bytes are, into the front of a lent buffer of any length.
+pub fn fill(template: &[u8], sheet: &[u8], out: &mut [u8]) -> Made
+    ensures is { λ r. ⌜ r ≡ madeSaid (fillAnswer (now (template .entry)) (now (sheet .entry)) (length (now (out .entry)))) ⌝ }
+    ensures buffer { λ _. ⌜ now (out .exit) ≡ bufferAfter (now (out .entry)) (fillAnswer (now (template .entry)) (now (sheet .entry)) (length (now (out .entry)))) ⌝ }
+{
+    match reader::read(template) {
+        Judgement::Refused { number, place } => Made::Refused { number, place },
+        Judgement::Accepted {
+            length: _,
+            depth: _,
+        } => {
+            let mut index: [u16; 64] = [0; 64];
+            match sheets::check_into(sheet, &mut index) {
+                Checked::Broken { place } => Made::Refused {
+                    number: SHEET_BROKEN,
+                    place,
+                },
+                Checked::Sound {
+                    entries: _,
+                    bytes: _,
+                } => fill_sound(template, sheet, &index, out),
+            }
+        }
+    }
+}
