@@ -1,0 +1,4 @@
+pub mod Merging
+pub mod Answering
+pub mod Filling
+pub mod Putting
