@@ -3,6 +3,7 @@
 --     exported-child     of a child
 --     exported-name      of a name
 --     exported-sheet     of a sheet
+--     exported-made      of fill and join
 -- Assumes nothing.
 use Prim.Native.Nat.{ℕ, _≤_, _<_}
 use mathlib.Core.Path.{_≡_, refl}
@@ -17,12 +18,14 @@ use Rattle.meaning.specs.Within.{Within}
 use Rattle.meaning.specs.Reading.{Reading, got, bad, hasShort, reading}
 use Rattle.meaning.specs.Sheet.{Sheet}
 use Rattle.meaning.specs.SheetReading.{readSheet}
+use Rattle.meaning.specs.Answers as Meant
 use Rattle.meaning.specs.Parts.{children, childOf, names}
 use Rattle.meaning.proofs.Rules.{rule, both}
 use Rattle.meaning.proofs.Window.{bytes-by-index}
 use Rattle.meaning.proofs.Laws.{encode-reading}
 use Rattle.meaning.proofs.Faults.{refusal-small}
-use Rattle.meaning.proofs.SheetBytes.{longest, sheet-read, sheet-refusal}
+use Rattle.meaning.proofs.SheetBytes.{sheet-read, sheet-refusal}
+use Rattle.meaning.proofs.Bounds.{farthest, Small}
 use Rattle.meaning.proofs.Parts.{children-few, names-few, child-inside, packed-number, name-inside}
 use Rattle.reader.specs.declared.Judgement.{Judgement}
 use Rattle.reader.specs.declared.Judgement.the-variants.{Accepted, Refused}
@@ -34,9 +37,11 @@ use Rattle.parts.specs.declared.FoundName.the-variants as name
 use Rattle.parts.specs.Said.{toldChild, childSaid, nameSaid}
 use Rattle.sheets.specs.declared.Checked.{Checked}
 use Rattle.sheets.specs.declared.Checked.the-variants as sheet
-use Rattle.sheets.specs.Said.{checked}
+use Rattle.sheets.specs.declared.Made.{Made}
+use Rattle.sheets.specs.declared.Made.the-variants as made
+use Rattle.sheets.specs.Said.{checked, madeSaid}
 use Rattle.board.specs.declared.Answer.{Answer}
-use Rattle.board.specs.Answers.{answered, refused, readAnswer, childAnswered, childAnswer, nameAnswer, sheetAnswer}
+use Rattle.board.specs.Answers.{answered, refused, readAnswer, childAnswered, childAnswer, nameAnswer, sheetAnswer, madeAnswer}
 
 -- an answer that fits, and is the one to be given
 pub record Given (a b : Answer) : Type 0 where
@@ -46,12 +51,12 @@ pub record Given (a b : Answer) : Type 0 where
   pub extra : a .extra < 4294967296
   pub is : a ≡ b
 
--- An answer fits whose number is one of the paper's, and whose others are no larger than the longest sheet is long.
-given : (a : Answer) → a .number ≤ noSuchPart → a .place ≤ longest → a .length ≤ longest → a .extra ≤ longest → Given a a
+-- An answer fits whose number is one of the paper's, and whose others are no larger than the largest place.
+given : (a : Answer) → a .number ≤ noSuchPart → a .place ≤ farthest → a .length ≤ farthest → a .extra ≤ farthest → Given a a
 given a n p l e = record { number = omega arith; place = omega arith; length = omega arith; extra = omega arith; is = refl }
 
 -- So does a refusal.
-given-refusal : (number place : ℕ) → number ≤ noSuchPart → place ≤ longest → Given (refused number place) (refused number place)
+given-refusal : (number place : ℕ) → number ≤ noSuchPart → place ≤ farthest → Given (refused number place) (refused number place)
 given-refusal number place n p = given (refused number place) n p (omega arith) (omega arith)
 
 -- what the calls below say, as the exported calls put it
@@ -72,9 +77,18 @@ abbrev sheetPut : Checked → Answer
 sheetPut (sheet.Sound entries bytes) = answered 0 bytes entries
 sheetPut (sheet.Broken place) = refused sheetBroken place
 
+abbrev madePut : Made → Answer
+madePut (made.Written length) = answered 0 length 0
+madePut (made.Refused number place) = refused number place
+
+-- What a fill or a joining says, small as it is, is what `shiulbart_fill` and `shiulbart_join` say.
+pub exported-made : (a : Meant.Answer) → Small a → Given (madePut (madeSaid a)) (madeAnswer a)
+exported-made (Meant.answered w) h = given _ (omega arith) (omega arith) (omega arith) (omega arith)
+exported-made (Meant.refused number place) h = given-refusal number place (h .0) (h .1)
+
 module _ (s : List ℕ) (bytes : (i : ℕ) → getD s i 0 < 256) where
   -- An input is a shape within the limits, or is refused with small numbers.
-  by-reading : (P : Reading Shape → Type 0) → ((t : Shape) (left : List ℕ) → Within t → P (got t left)) → ((number place : ℕ) → number ≤ noSuchPart → place ≤ longest → P (bad number place)) → P (reading s)
+  by-reading : (P : Reading Shape → Type 0) → ((t : Shape) (left : List ℕ) → Within t → P (got t left)) → ((number place : ℕ) → number ≤ noSuchPart → place ≤ farthest → P (bad number place)) → P (reading s)
   by-reading P h k = go (reading s) refl
     where
       go : (r : Reading Shape) → reading s ≡ r → P r

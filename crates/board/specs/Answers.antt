@@ -9,6 +9,7 @@ use Rattle.meaning.specs.Shape.{Shape, depth}
 use Rattle.meaning.specs.Encode.{encode}
 use Rattle.meaning.specs.Reading.{Reading, got, bad}
 use Rattle.meaning.specs.Sheet.{Sheet, encodings}
+use Rattle.meaning.specs.Answers as Meant
 use Rattle.meaning.specs.Parts.{Child, part, packedPrim, children, childOf, names, nameText, namePlace}
 use Rattle.board.specs.declared.Answer.{Answer}
 
@@ -46,3 +47,8 @@ nameAnswer (got s left) k =
 abbrev pub sheetAnswer : Reading Sheet → Answer
 sheetAnswer (got σ left) = answered 0 (length (encodings σ)) (length σ)
 sheetAnswer (bad number place) = refused number place
+
+-- `shiulbart_fill` and `shiulbart_join`: how many bytes were written, or the refusal
+abbrev pub madeAnswer : Meant.Answer → Answer
+madeAnswer (Meant.answered w) = answered 0 (length w) 0
+madeAnswer (Meant.refused number place) = refused number place

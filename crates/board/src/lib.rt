@@ -4,12 +4,15 @@ use parts::FoundChild;
 use parts::FoundName;
 use reader::Judgement;
 use sheets::Checked;
+use sheets::Made;
 ghost use mathlib.Core.Path.{_≡_};
 ghost use Prim.Native.Nat.{_<_};
+ghost use lib.ListN.{length};
 ghost use Rattle.meaning.specs.Refusals.{sheetBroken};
 ghost use Rattle.meaning.specs.Reading.{reading};
 ghost use Rattle.meaning.specs.SheetReading.{readSheet};
-ghost use Rattle.board.specs.Answers.{answered, refused, readAnswer, childAnswer, nameAnswer, sheetAnswer};
+ghost use Rattle.meaning.specs.Answers.{fillAnswer, joinAnswer, bufferAfter};
+ghost use Rattle.board.specs.Answers.{answered, refused, readAnswer, childAnswer, nameAnswer, sheetAnswer, madeAnswer};
 
 // What every call says. Number 0 is an answer; otherwise number and place are the paper's. A field that a call does not use is 0.
 #[repr(C)]
@@ -88,5 +91,29 @@ pub extern "C" fn shiulbart_sheet(sheet: &[u8]) -> Answer
     match sheets::check(sheet) {
         Checked::Broken { place } => refusal_of(SHEET_BROKEN, place),
         Checked::Sound { entries, bytes } => answer_of(0, bytes, entries),
+    }
+}
+
+// Fills a template with a sheet, into the front of a lent buffer: how many bytes were written as length, or the refusal.
+#[no_mangle]
+pub extern "C" fn shiulbart_fill(template: &[u8], sheet: &[u8], out: &mut [u8]) -> Answer
+    ensures is { λ r. ⌜ r ≡ madeAnswer (fillAnswer (now (template .entry)) (now (sheet .entry)) (length (now (out .entry)))) ⌝ }
+    ensures buffer { λ _. ⌜ now (out .exit) ≡ bufferAfter (now (out .entry)) (fillAnswer (now (template .entry)) (now (sheet .entry)) (length (now (out .entry)))) ⌝ }
+{
+    match fills::fill(template, sheet, out) {
+        Made::Refused { number, place } => refusal_of(number, place),
+        Made::Written { length } => answer_of(0, length, 0),
+    }
+}
+
+// Joins two sheets, into the front of a lent buffer: how many bytes were written as length, or the refusal.
+#[no_mangle]
+pub extern "C" fn shiulbart_join(first: &[u8], second: &[u8], out: &mut [u8]) -> Answer
+    ensures is { λ r. ⌜ r ≡ madeAnswer (joinAnswer (now (first .entry)) (now (second .entry)) (length (now (out .entry)))) ⌝ }
+    ensures buffer { λ _. ⌜ now (out .exit) ≡ bufferAfter (now (out .entry)) (joinAnswer (now (first .entry)) (now (second .entry)) (length (now (out .entry)))) ⌝ }
+{
+    match joins::join(first, second, out) {
+        Made::Refused { number, place } => refusal_of(number, place),
+        Made::Written { length } => answer_of(0, length, 0),
     }
 }
