@@ -126,6 +126,32 @@ shiulbart_answer shiulbart_name(const uint8_t *bytes, size_t length, uint64_t k)
  */
 shiulbart_answer shiulbart_sheet(const uint8_t *sheet, size_t length);
 
+/*
+ * Fills a template: the encoded shape with each blank that the sheet names replaced by what the sheet
+ * has for it, all together and once, so that nothing is replaced in what was put in. Other blanks
+ * stay. The template is called `shape` here, for C++ keeps the other word to itself. If it is
+ * answered, the first `length` bytes of `out`, 1 to 2,048, are the encoding of the filled shape, and
+ * no other byte of it has changed. Otherwise refused, at the first of these that applies: 1 to 8 for
+ * the template, as by shiulbart_read; 13 for the sheet, as by shiulbart_sheet; 15 and then 16, at 0,
+ * for the filled shape, and for it alone; 12 if `out_length` is under the length needed, which is
+ * the place. So a call with an `out_length` of 0 asks for that length.
+ */
+shiulbart_answer shiulbart_fill(const uint8_t *shape, size_t shape_length, const uint8_t *sheet,
+    size_t sheet_length, uint8_t *out, size_t out_length);
+
+/*
+ * Joins two sheets, so that filling with the joined one is filling with the first and then with the
+ * second. It has each blank of the first, with its shape filled by the second, and each blank that
+ * only the second names, as it is there. If it is answered, the first `length` bytes of `out`, 4 to
+ * 16,516, are the joined sheet, and no other byte of it has changed. Otherwise refused, at the first
+ * of these that applies: 13 for the first sheet and 14 for the second, as by shiulbart_sheet; 17 if
+ * there would be over 32 entries (how many); blank by blank, in rising order, 15 and then 16 for the
+ * filled shape (the blank's number); 17 if the encodings would be over 16,384 bytes (how many); 12 if
+ * `out_length` is under the length needed (that length).
+ */
+shiulbart_answer shiulbart_join(const uint8_t *first, size_t first_length, const uint8_t *second,
+    size_t second_length, uint8_t *out, size_t out_length);
+
 #ifdef __cplusplus
 }
 #endif

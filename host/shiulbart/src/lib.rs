@@ -31,15 +31,27 @@
 //! # }
 //! ```
 //!
-//! A *sheet* says which shapes are to be put for the blanks of another one: [`sheet`](sheet()) checks it.
+//! A *sheet* says which shapes are to be put for the blanks of another one: [`sheet`](sheet()) checks
+//! it, [`fill`](fill()) puts them, and [`join`](join()) makes one sheet of two:
+//!
+//! ```
+//! # fn main() -> Result<(), shiulbart::Refusal> {
+//! // an Array of blank 0, and a sheet that has an Int for it
+//! let template = [0x40, 1, 0, 0];
+//! let sheet = [1, 0, 0, 0, 1, 0, 1, 0, 0x20];
+//! assert_eq!(shiulbart::fill_to_vec(&template, &sheet)?, [0x60]);
+//! # Ok(())
+//! # }
+//! ```
 //!
 //! # Memory
 //!
 //! Inputs are only read, and no call keeps a reference once it has returned. A call that writes its
 //! answer is lent a `&mut [u8]`. The proved code relies on that buffer overlapping nothing else that
 //! is lent to the call, and Rust's borrow rules rule such an overlap out, so that no function here
-//! is `unsafe`. Nothing is allocated. The calls have no state: any number of threads may make them
-//! at once.
+//! is `unsafe`. A refusal leaves that buffer as it was; an answer of n bytes writes the first n and no
+//! other. Nothing is allocated but the answers of [`fill_to_vec`] and [`join_to_vec`]. The calls have
+//! no state: any number of threads may make them at once.
 //!
 //! # Linking
 //!
@@ -51,12 +63,14 @@
 #![deny(unsafe_op_in_unsafe_fn)]
 #![warn(missing_docs)]
 
+mod fill;
 mod parts;
 mod refusal;
 mod sheet;
 #[allow(unsafe_code)]
 mod sys;
 
+pub use fill::{fill, fill_to_vec, join, join_to_vec};
 pub use parts::{child, children, name, names, Child, Children, Name, Names, Primitive};
 pub use refusal::{Refusal, RefusalKind};
 pub use sheet::{sheet, SheetSize};

@@ -17,6 +17,22 @@ extern "C" {
     fn shiulbart_child(bytes: *const u8, length: usize, k: u64) -> Answer;
     fn shiulbart_name(bytes: *const u8, length: usize, k: u64) -> Answer;
     fn shiulbart_sheet(sheet: *const u8, length: usize) -> Answer;
+    fn shiulbart_fill(
+        template: *const u8,
+        template_length: usize,
+        sheet: *const u8,
+        sheet_length: usize,
+        out: *mut u8,
+        out_length: usize,
+    ) -> Answer;
+    fn shiulbart_join(
+        first: *const u8,
+        first_length: usize,
+        second: *const u8,
+        second_length: usize,
+        out: *mut u8,
+        out_length: usize,
+    ) -> Answer;
 }
 
 #[inline]
@@ -42,4 +58,36 @@ pub(crate) fn name(bytes: &[u8], k: u64) -> Answer {
 pub(crate) fn sheet(sheet: &[u8]) -> Answer {
     // SAFETY: as in `read`.
     unsafe { shiulbart_sheet(sheet.as_ptr(), sheet.len()) }
+}
+
+#[inline]
+pub(crate) fn fill(template: &[u8], sheet: &[u8], out: &mut [u8]) -> Answer {
+    // SAFETY: the inputs as in `read`. The buffer's pointer is never null, is valid for reads and
+    // writes of its length, and as it is borrowed mutably nothing overlaps it and nobody else looks
+    // at it until the call has returned.
+    unsafe {
+        shiulbart_fill(
+            template.as_ptr(),
+            template.len(),
+            sheet.as_ptr(),
+            sheet.len(),
+            out.as_mut_ptr(),
+            out.len(),
+        )
+    }
+}
+
+#[inline]
+pub(crate) fn join(first: &[u8], second: &[u8], out: &mut [u8]) -> Answer {
+    // SAFETY: as in `fill`.
+    unsafe {
+        shiulbart_join(
+            first.as_ptr(),
+            first.len(),
+            second.as_ptr(),
+            second.len(),
+            out.as_mut_ptr(),
+            out.len(),
+        )
+    }
 }
