@@ -4,6 +4,7 @@
 
 use crate::random::Random;
 
+pub mod fills;
 pub mod sheets;
 
 const MAX_BYTES: usize = 2048;
@@ -670,9 +671,16 @@ fn at_the_last_level(random: &mut Random) -> Vec<u8> {
         &[0x44, 0x03, 0x00, 0x01, 0x01, 0x61],
         &[0x45, 0x02, 0x00, 0x20, 0x00],
     ];
-    let mut bytes = random.pick(&inner).to_vec();
+    let inner = random.pick(&inner);
     let only_arrays = random.once_in(3);
-    for _ in 0..random.between(14, 17) {
+    let levels = random.between(14, 17);
+    in_levels(random, inner, levels, only_arrays)
+}
+
+/// So many levels of all kinds, or Arrays only, round an encoding.
+fn in_levels(random: &mut Random, inner: &[u8], levels: usize, only_arrays: bool) -> Vec<u8> {
+    let mut bytes = inner.to_vec();
+    for _ in 0..levels {
         let (first, before, after): (u8, &[u8], &[u8]) = match random.below(6) {
             _ if only_arrays => (ARRAY, &[], &[]),
             0 => (ARRAY, &[], &[]),

@@ -8,6 +8,7 @@
 //! models that the comparison has to tell apart from the model. The fault is a constant of the
 //! compiled function, so the right reader does not pay for it.
 
+pub mod fill;
 pub mod parts;
 pub mod sheet;
 

@@ -2,11 +2,12 @@
 //! one written in Rust for speed, which says what is fast. `bin/compare` compares them case by case,
 //! `bin/bench` measures their time and `bin/stack` their stack.
 //!
-//! A further call is added beside `read`, `child`, `name` and `sheet` in each place: its inputs in `cases`,
-//! its outcome of each program here, a function in `bin/compare`, its worst inputs in `stack`.
+//! A further call is added beside the others in each place: its inputs in `cases`, its outcome of each
+//! program here, a `Call` in `bin/compare`, its worst inputs in `stack`.
 
 pub mod cases;
 pub mod fast;
+pub mod question;
 pub mod random;
 pub mod shrink;
 pub mod stack;
@@ -298,6 +299,128 @@ pub mod sheet {
         ("does not read the last encoding", fast::<LAST_NOT_READ>),
         ("gives the reader's place", fast::<PLACE_IN_ENCODING>),
         ("gives the bad byte's place", fast::<PLACE_IN_SHEET>),
+    ];
+}
+
+/// A program for a call that takes two inputs and is lent a buffer for its answer.
+pub type Lends = fn(&[u8], &[u8], &mut [u8]) -> Outcome;
+
+/// A model with one fault for such a call, and the fault in words.
+pub type WrongLends = (&'static str, Lends);
+
+/// What the model makes of two inputs, however long it is.
+pub type Whole = fn(&[u8], &[u8]) -> Result<Vec<u8>, model::Refusal>;
+
+/// `fill` of each program.
+pub mod fill {
+    use crate::fast::fill::{fault::*, fill};
+    use crate::{Outcome, WrongLends};
+
+    pub fn proved(template: &[u8], sheet: &[u8], out: &mut [u8]) -> Outcome {
+        match shiulbart::fill(template, sheet, out) {
+            Ok(length) => Outcome::answer(length, 0),
+            Err(refusal) => Outcome::refusal(refusal.number(), refusal.place()),
+        }
+    }
+
+    pub fn whole(template: &[u8], sheet: &[u8]) -> Result<Vec<u8>, model::Refusal> {
+        model::sheet::fill(template, sheet, usize::MAX)
+    }
+
+    /// The fast fill: right with fault 0, else a wrong model.
+    pub fn fast<const FAULT: u8>(template: &[u8], sheet: &[u8], out: &mut [u8]) -> Outcome {
+        match fill::<FAULT>(template, sheet, out) {
+            Ok(length) => Outcome::answer(length, 0),
+            Err(refusal) => Outcome::refusal(refusal.number, refusal.place),
+        }
+    }
+
+    pub const WRONG: [WrongLends; 23] = [
+        ("refuses everything", fast::<REFUSES_EVERYTHING>),
+        ("copies the template", fast::<COPIES_TEMPLATE>),
+        ("fills again in what it put in", fast::<FILLS_AGAIN>),
+        ("keeps the long Array", fast::<LONG_ARRAY>),
+        ("keeps the long Map", fast::<LONG_MAP>),
+        ("packs a Map value first", fast::<PACKED_SWAPPED>),
+        ("keeps the template's sizes", fast::<OLD_SIZES>),
+        ("looks up blanks under 32 only", fast::<SHORT_BLANKS_ONLY>),
+        ("compares low bytes of blanks", fast::<LOW_BYTES>),
+        ("takes the next entry if none", fast::<NEXT_ENTRY>),
+        ("leaves a Function's return", fast::<NOT_IN_RETURN>),
+        ("refuses entry by entry", fast::<STAGE_BY_STAGE>),
+        ("adds the deepest entry's depth", fast::<DEPTH_OF_ALL>),
+        ("makes level 17", fast::<LEVEL_17>),
+        ("makes 2,049 bytes", fast::<LONGER>),
+        ("gives 16 before 15", fast::<SIXTEEN_FIRST>),
+        ("gives 12 before 15 and 16", fast::<TWELVE_FIRST>),
+        ("gives 13 before 1 to 8", fast::<SHEET_FIRST>),
+        ("places 16 at the length", fast::<PLACE_OF_SIXTEEN>),
+        ("needs one byte more", fast::<NEEDED_ONE_MORE>),
+        ("refuses the length needed", fast::<ROOM_TO_SPARE>),
+        ("writes one byte more", fast::<ONE_BYTE_MORE>),
+        ("refuses, but writes what fits", fast::<WRITES_WHAT_FITS>),
+    ];
+}
+
+/// `join` of each program.
+pub mod join {
+    use crate::fast::fill::{fault::*, join};
+    use crate::{Outcome, WrongLends};
+
+    pub fn proved(first: &[u8], second: &[u8], out: &mut [u8]) -> Outcome {
+        match shiulbart::join(first, second, out) {
+            Ok(length) => Outcome::answer(length, 0),
+            Err(refusal) => Outcome::refusal(refusal.number(), refusal.place()),
+        }
+    }
+
+    pub fn whole(first: &[u8], second: &[u8]) -> Result<Vec<u8>, model::Refusal> {
+        model::sheet::join(first, second, usize::MAX)
+    }
+
+    /// The fast join: right with fault 0, else a wrong model.
+    pub fn fast<const FAULT: u8>(first: &[u8], second: &[u8], out: &mut [u8]) -> Outcome {
+        match join::<FAULT>(first, second, out) {
+            Ok(length) => Outcome::answer(length, 0),
+            Err(refusal) => Outcome::refusal(refusal.number, refusal.place),
+        }
+    }
+
+    pub const WRONG: [WrongLends; 34] = [
+        ("refuses everything", fast::<REFUSES_EVERYTHING>),
+        ("copies the first sheet", fast::<COPIES_FIRST>),
+        ("does not fill the first's shapes", fast::<NOT_FILLED>),
+        ("fills the second's shapes, too", fast::<SECOND_FILLED>),
+        ("fills the first by itself", fast::<FILLED_BY_ITSELF>),
+        ("takes the second's where both have", fast::<SECOND_WINS>),
+        ("fills again in what it put in", fast::<FILLS_AGAIN>),
+        ("keeps the long Array", fast::<LONG_ARRAY>),
+        ("keeps the long Map", fast::<LONG_MAP>),
+        ("packs a Map value first", fast::<PACKED_SWAPPED>),
+        ("keeps the sizes in a shape", fast::<OLD_SIZES>),
+        ("keeps the entries' lengths", fast::<OLD_LENGTHS>),
+        ("puts the second's own last", fast::<NOT_RISING>),
+        ("looks up blanks under 32 only", fast::<SHORT_BLANKS_ONLY>),
+        ("compares low bytes of blanks", fast::<LOW_BYTES>),
+        ("takes the next entry if none", fast::<NEXT_ENTRY>),
+        ("makes level 17", fast::<LEVEL_17>),
+        ("makes 2,049 bytes", fast::<LONGER>),
+        ("gives 16 before 15 at a blank", fast::<SIXTEEN_FIRST>),
+        ("gives every 15 before a 16", fast::<FIFTEENS_FIRST>),
+        ("places 15 and 16 at 0", fast::<PLACE_0>),
+        ("places 15 and 16 at the entry", fast::<PLACE_OF_ENTRY>),
+        ("counts blanks of both twice in 17", fast::<BOTH_COUNTED>),
+        ("takes 33 entries", fast::<ENTRIES_33>),
+        ("counts entries after 15 and 16", fast::<ENTRIES_LATER>),
+        ("counts bytes before 15 and 16", fast::<BYTES_FIRST>),
+        ("counts bytes of unfilled shapes", fast::<BYTES_UNFILLED>),
+        ("places 17 at the sheet's length", fast::<WHOLE_SHEET>),
+        ("takes 16,385 bytes", fast::<MORE_BYTES>),
+        ("gives 14 before 13", fast::<SECOND_FIRST>),
+        ("gives 13 for the second", fast::<SECOND_AS_13>),
+        ("needs one byte more", fast::<NEEDED_ONE_MORE>),
+        ("writes one byte more", fast::<ONE_BYTE_MORE>),
+        ("refuses, but writes what fits", fast::<WRITES_WHAT_FITS>),
     ];
 }
 

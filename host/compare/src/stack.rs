@@ -8,7 +8,7 @@ use crate::Parts;
 
 /// What a call may take.
 pub const MOST_FOR_READ: usize = 4096;
-pub const MOST_FOR_ANOTHER: usize = 8192; // child, name and sheet too
+pub const MOST_FOR_ANOTHER: usize = 8192;
 
 /// Painted below the caller: far more than any call may take.
 const PAINTED: usize = 512 * 1024;
@@ -176,3 +176,131 @@ pub fn worst_for_sheet() -> Vec<(String, Vec<u8>)> {
     }
     inputs
 }
+
+/// A call's two inputs, and what they are.
+pub type Worst = (String, Vec<u8>, Vec<u8>);
+
+/// Templates of 16 levels, with lists of each kind, round blank 0, and wide ones.
+fn worst_templates() -> Vec<(&'static str, Vec<u8>)> {
+    let rounds: [(&str, fn(&[u8]) -> Vec<u8>); 6] = [
+        ("15 Arrays", |inner| long(0x40, inner)),
+        ("15 Maps, keys", |inner| long(0x41, &[inner, &[0]].concat())),
+        ("15 Maps, values", |inner| {
+            long(0x41, &[&[0], inner].concat())
+        }),
+        ("15 Records", |inner| {
+            let name = "\u{1F6A1}".repeat(20);
+            record(2, &[&[1, b'a', 0, 80], name.as_bytes(), inner].concat())
+        }),
+        ("15 Functions, parameters", |inner| function(1, inner, &[0])),
+        ("15 Functions, returns", |inner| function(2, &[0, 1], inner)),
+    ];
+    let mut templates: Vec<(&str, Vec<u8>)> = rounds
+        .map(|(name, round)| (name, nested(15, &[0], round)))
+        .into();
+    let mixed = (0..15).fold(vec![0], |inner, level| rounds[level % 6].1(&inner));
+    templates.push(("15 levels of all kinds", mixed));
+    let blanks: Vec<u8> = (0..2040).map(|i| i as u8 % 32).collect();
+    templates.extend([
+        ("blank 0", vec![0]),
+        ("Array of blank 0", long(0x40, &[0])),
+        ("Function of 2,040 blanks", function(2040, &blanks, &[0])),
+        (
+            "Function of 500 Arrays",
+            function(500, &[0x40, 1, 0, 0].repeat(500), &[0x20]),
+        ),
+        ("Record of 1,000 fields", record(1000, &[0, 0].repeat(1000))),
+        (
+            "15 levels of 128 blanks",
+            nested(15, &[0], |inner| function(128, &[0; 128], inner)),
+        ),
+        (
+            "15 levels of 25 long blanks",
+            nested(15, &[0], |inner| {
+                function(25, &[0x45, 2, 0, 40, 0].repeat(25), inner)
+            }),
+        ),
+        ("Symbol of 2,042 letters", symbol(&[b'a'; 2042])),
+    ]);
+    templates
+}
+
+/// Sheets that fill them: with what is short, deep (15 refuses most), long (16) or much. In the last
+/// the largest sheet is read.
+fn worst_fillings() -> Vec<(&'static str, Vec<u8>)> {
+    let deep = nested(15, &[0x01], |inner| function(0, &[], inner));
+    let wide = function(2040, &[0x00; 2040], &[0x01]);
+    let of_32 = |first: &[u8], others: &[u8]| {
+        let own = |blank| if blank == 0 { first } else { others };
+        Sheet::of((0..32).map(|blank| (blank, own(blank)))).bytes()
+    };
+    vec![
+        ("the empty sheet", equal(0, &[])),
+        ("one Int", equal(1, &[0x20])),
+        ("32 Ints", equal(32, &[0x20])),
+        ("32 blanks", equal(32, &[0x45, 2, 0, 0xFF, 0xFF])),
+        ("a packed Map", equal(1, &[0x76])),
+        ("16 levels", of_32(&deep, &[0x20])),
+        ("2,046 bytes", of_32(&wide, &[0x20])),
+        ("32 of 512 bytes", equal(32, &symbol_of(512))),
+    ]
+}
+
+/// The stored worst inputs for `fill`: each template with each sheet, and what is refused.
+pub fn worst_for_fill() -> Vec<Worst> {
+    let mut inputs = Vec::new();
+    for (template, bytes) in worst_templates() {
+        for (sheet, filling) in worst_fillings() {
+            let name = format!("{template}, with {sheet}");
+            inputs.push((name, bytes.clone(), filling));
+        }
+    }
+    for (template, bytes) in worst_for_read() {
+        let name = format!("{template}, with 32 Ints");
+        inputs.push((name, bytes, equal(32, &[0x20])));
+    }
+    for (sheet, bytes) in worst_for_sheet() {
+        inputs.push((
+            format!("Array of blank 31, with {sheet}"),
+            long(0x40, &[31]),
+            bytes,
+        ));
+    }
+    inputs
+}
+
+/// The stored worst inputs for `join`: first sheets with each template, alone or as the last of 32, with
+/// each sheet that fills them, and what is refused.
+pub fn worst_for_join() -> Vec<Worst> {
+    let mut inputs = Vec::new();
+    for (template, bytes) in worst_templates() {
+        for (sheet, filling) in worst_fillings() {
+            let own = |blank| if blank < 31 { &[0x00][..] } else { &bytes[..] };
+            let last_of_32 = Sheet::of((0..32).map(|blank| (blank, own(blank)))).bytes();
+            let name = format!("31 blanks and {template}, with {sheet}");
+            inputs.push((name, last_of_32, filling.clone()));
+            let name = format!("{template}, with {sheet}");
+            inputs.push((name, equal(1, &bytes), filling));
+        }
+    }
+    for (sheet, bytes) in worst_for_sheet() {
+        inputs.push((
+            format!("one Int, with {sheet}"),
+            equal(1, &[0x20]),
+            bytes.clone(),
+        ));
+        inputs.push((format!("{sheet}, with one Int"), bytes, equal(1, &[0x20])));
+    }
+    inputs
+}
+
+/// What a board's whole job takes beside the stack: the buffers that it lends, at their largest.
+pub const BOARD: usize = 65_536;
+const SHEET: usize = 16_516;
+const SHAPE: usize = 2048;
+
+/// Board A fills twice: a template, the workshop's sheet and the answer, the site's sheet and the answer.
+pub const BUFFERS_OF_A: usize = SHAPE + SHEET + SHAPE + SHEET + SHAPE;
+
+/// Board B joins and fills once: both sheets and the joined one, a template and the answer.
+pub const BUFFERS_OF_B: usize = SHEET + SHEET + SHEET + SHAPE + SHAPE;

@@ -1,9 +1,10 @@
 //! The inputs are the same on every machine, and reach every depth and number.
 
+use compare::cases::fills::{Chains, FillInputs, JoinInputs};
 use compare::cases::sheets::{symbol_of, SheetInputs};
 use compare::cases::{any_k, Inputs, PartInputs};
 use compare::random::Random;
-use compare::{read, sheet};
+use compare::{fill, join, read, sheet};
 
 #[test]
 fn same_seed_same_inputs() {
@@ -14,6 +15,15 @@ fn same_seed_same_inputs() {
     assert_eq!(inputs(1), inputs(1));
     assert_ne!(inputs(1), inputs(2));
     let inputs = |seed| SheetInputs::new(seed).take(500).collect::<Vec<_>>();
+    assert_eq!(inputs(1), inputs(1));
+    assert_ne!(inputs(1), inputs(2));
+    let inputs = |seed| FillInputs::new(seed).take(500).collect::<Vec<_>>();
+    assert_eq!(inputs(1), inputs(1));
+    assert_ne!(inputs(1), inputs(2));
+    let inputs = |seed| JoinInputs::new(seed).take(200).collect::<Vec<_>>();
+    assert_eq!(inputs(1), inputs(1));
+    assert_ne!(inputs(1), inputs(2));
+    let inputs = |seed| Chains::new(seed).take(200).collect::<Vec<_>>();
     assert_eq!(inputs(1), inputs(1));
     assert_ne!(inputs(1), inputs(2));
 }
@@ -113,4 +123,29 @@ fn symbols_of_every_length() {
         assert_eq!(read::model(&symbol).number, 0);
     }
     assert_eq!(symbol_of(2049).len(), 2049);
+}
+
+/// Made shapes and joined sheets of the lengths at which a limit can be missed by one.
+#[test]
+fn fills_and_joins_at_the_limits() {
+    let lengths: Vec<usize> = FillInputs::new(1)
+        .take(3000)
+        .filter_map(|(template, sheet)| fill::whole(&template, &sheet).ok())
+        .map(|made| made.len())
+        .collect();
+    for length in [1, 4, 5, 2047, 2048] {
+        assert!(lengths.contains(&length), "nothing of {length} bytes made");
+    }
+    let mut counts = [0; 33];
+    let mut totals = Vec::new();
+    for (first, second) in JoinInputs::new(1).take(3000) {
+        if let Ok(joined) = join::whole(&first, &second) {
+            counts[joined[0] as usize] += 1;
+            totals.push(joined.len() - 4 - 4 * joined[0] as usize);
+        }
+    }
+    assert!(counts.iter().all(|&times| times > 0), "{counts:?}");
+    for total in [0, 1, 16_383, 16_384] {
+        assert!(totals.contains(&total), "no joined sheet of {total} bytes");
+    }
 }

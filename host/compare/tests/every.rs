@@ -1,8 +1,10 @@
 //! Small inputs without a gap: the three programs agree on all of them.
 
-use compare::cases::sheets::{equal, symbol_of};
+use compare::cases::fills::{FillInputs, JoinInputs};
+use compare::cases::sheets::{equal, symbol_of, Sheet};
 use compare::cases::{function, leb128, long, record};
-use compare::{child, name, read, sheet};
+use compare::question::{Pair, Question};
+use compare::{child, fill, join, name, read, sheet, Outcome};
 
 fn agree(bytes: &[u8]) {
     let right = read::model(bytes);
@@ -25,6 +27,20 @@ fn sheets_agree(bytes: &[u8]) {
     let right = sheet::model(bytes);
     assert_eq!(sheet::proved(bytes), right, "proved, on {bytes:02X?}");
     assert_eq!(sheet::fast::<0>(bytes), right, "fast, on {bytes:02X?}");
+}
+
+fn fills_agree(template: &[u8], sheet: &[u8]) {
+    let pair = Pair::new(template.to_vec(), sheet.to_vec(), fill::whole);
+    let right = pair.right();
+    assert!(pair.ask(fill::proved) == right, "proved, on {pair}");
+    assert!(pair.ask(fill::fast::<0>) == right, "fast, on {pair}");
+}
+
+fn joins_agree(first: &[u8], second: &[u8]) {
+    let pair = Pair::new(first.to_vec(), second.to_vec(), join::whole);
+    let right = pair.right();
+    assert!(pair.ask(join::proved) == right, "proved, on {pair}");
+    assert!(pair.ask(join::fast::<0>) == right, "fast, on {pair}");
 }
 
 /// The first parts, and numbers that are far too large.
@@ -234,6 +250,141 @@ fn sheets_of_every_number_of_entries() {
             sheets_agree(&sheet);
             sheets_agree(&sheet[..sheet.len() - 1]);
             sheets_agree(&[&sheet[..], &[0]].concat());
+        }
+    }
+}
+
+/// The sheet that has these encodings for these blanks.
+fn sheet_of(blanks: &[(u16, &[u8])]) -> Vec<u8> {
+    Sheet::of(blanks.iter().copied()).bytes()
+}
+
+/// Each shape of one byte, alone and in each list, filled with each.
+#[test]
+fn fills_of_every_short_shape_by_every_other() {
+    let short = || (0..=36u8).chain(96..=125);
+    for put in short() {
+        let sheet = sheet_of(&[(0, &[put]), (5, &[0x20])]);
+        for byte in short() {
+            fills_agree(&[byte], &sheet);
+        }
+        for template in [
+            &[0x40, 1, 0, 0][..],
+            &[0x41, 2, 0, 0, 0],
+            &[0x41, 2, 0, 0, 5],
+            &[0x41, 2, 0, 5, 0],
+            &[0x41, 2, 0, 0, 0x24],
+            &[0x41, 2, 0, 0x21, 0],
+            &[0x41, 2, 0, 0x60, 0],
+            &[0x42, 5, 0, 2, 0, 0, 0, 0],
+            &[0x43, 4, 0, 2, 0, 0x20, 0],
+            &[0x40, 4, 0, 0x40, 1, 0, 0],
+            &[0x44, 3, 0, 1, 1, 0],
+        ] {
+            fills_agree(template, &sheet);
+        }
+    }
+}
+
+/// Blanks of all sizes, in a sheet that names their neighbours and those of the same low byte.
+#[test]
+fn fills_of_blanks_of_every_size() {
+    let all = [
+        0u16, 1, 30, 31, 32, 33, 255, 256, 257, 287, 288, 8192, 65_535,
+    ];
+    let blank = |number: u16| match number {
+        0..=31 => vec![number as u8],
+        _ => long(0x45, &number.to_le_bytes()),
+    };
+    for number in all {
+        for template in [blank(number), long(0x40, &blank(number))] {
+            for other in all {
+                fills_agree(&template, &sheet_of(&[(other, &[0x20])]));
+                fills_agree(&template, &sheet_of(&[(other, &blank(number))]));
+                joins_agree(
+                    &sheet_of(&[(other, &template)]),
+                    &sheet_of(&[(number, &[0x24])]),
+                );
+            }
+            let without: Vec<(u16, &[u8])> = all
+                .iter()
+                .filter(|other| **other != number)
+                .map(|other| (*other, &[0x20][..]))
+                .collect();
+            fills_agree(&template, &sheet_of(&without));
+        }
+    }
+}
+
+/// Lists whose count takes one byte or two, and sizes that do.
+#[test]
+fn fills_of_lists_of_up_to_300() {
+    for count in (0..4usize).chain(126..131).chain([255, 256, 300]) {
+        let fields = [1, b'n', 0].repeat(count);
+        for put in [
+            &[0x20][..],
+            &[0x60],
+            &[3],
+            &symbol_of(6),
+            &[0x45, 2, 0, 40, 0],
+        ] {
+            let sheet = sheet_of(&[(0, put)]);
+            fills_agree(&function(count, &vec![0; count], &[0]), &sheet);
+            fills_agree(
+                &function(count, &[0x40, 1, 0, 0].repeat(count), &[0]),
+                &sheet,
+            );
+            fills_agree(&record(count, &fields), &sheet);
+        }
+    }
+}
+
+/// All pairs of small sheets whose shapes are blanks of the other, or broken.
+#[test]
+fn joins_of_small_sheets() {
+    let mut sheets = vec![vec![], vec![0; 4], vec![0; 5], vec![33, 0]];
+    for blanks in [
+        &[0][..],
+        &[1],
+        &[40],
+        &[0, 1],
+        &[0, 40],
+        &[1, 40],
+        &[0, 1, 40],
+    ] {
+        for shift in 0..4 {
+            let owns: [&[u8]; 4] = [&[1], &[0x20], &[0x40, 1, 0, 0], &[0x45, 2, 0, 40, 0]];
+            let own = |i: usize| owns[(i + shift) % 4];
+            let entries: Vec<(u16, &[u8])> = (0..).zip(blanks).map(|(i, b)| (*b, own(i))).collect();
+            sheets.push(sheet_of(&entries));
+        }
+    }
+    for first in &sheets {
+        for second in &sheets {
+            joins_agree(first, second);
+        }
+    }
+}
+
+/// What `Pair` says of a short buffer is what the model itself says with that much room.
+#[test]
+fn twelve_is_the_models_own() {
+    let says = |said: Result<Vec<u8>, model::Refusal>| match said {
+        Ok(answer) => Outcome::answer(answer.len(), 0),
+        Err(refusal) => Outcome::refusal(refusal.number, refusal.place),
+    };
+    for (first, second) in FillInputs::new(1).take(300) {
+        let pair = Pair::new(first, second, fill::whole);
+        for (lent, &room) in pair.right().0.iter().zip(&pair.rooms) {
+            let own = says(model::sheet::fill(&pair.first, &pair.second, room));
+            assert_eq!(lent.outcome, own);
+        }
+    }
+    for (first, second) in JoinInputs::new(1).take(100) {
+        let pair = Pair::new(first, second, join::whole);
+        for (lent, &room) in pair.right().0.iter().zip(&pair.rooms) {
+            let own = says(model::sheet::join(&pair.first, &pair.second, room));
+            assert_eq!(lent.outcome, own);
         }
     }
 }

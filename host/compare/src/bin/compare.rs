@@ -1,10 +1,14 @@
 //! Compares the proved calls with the independent model, case by case. See README.md.
 
+use compare::cases::fills::{Chains, FillInputs, JoinInputs};
+use compare::cases::sheets::SheetInputs;
+use compare::cases::{any_k, Inputs, PartInputs};
 use compare::fast::sheet::{check, Rule};
+use compare::question::{Bytes, Pair, Part, Question};
 use compare::random::Random;
-use compare::read::{self, Read, Wrong, WRONG};
+use compare::read::{self, WRONG};
 use compare::shrink::{shrink, shrink_sheet};
-use compare::{cases, child, hex, name, sheet, Outcome, Parts, WrongParts};
+use compare::{cases, child, fill, hex, join, name, sheet, Outcome, Parts, Whole};
 use std::process::ExitCode;
 use std::time::{Duration, Instant};
 
@@ -19,17 +23,23 @@ const SEED: u64 = 2048;
 const READ_CASES: usize = 200_000;
 const PARTS_CASES: usize = 20_000;
 const SHEET_CASES: usize = 20_000;
+const PAIR_CASES: usize = 20_000;
+const CHAINS: usize = 4_000;
 
 /// The numbers of the wrong models: those of `child` follow those of `read`, and so on.
 const WRONG_CHILD: usize = WRONG.len();
 const WRONG_NAME: usize = WRONG_CHILD + child::WRONG.len();
 const WRONG_SHEET: usize = WRONG_NAME + name::WRONG.len();
-const ALL_WRONG: usize = WRONG_SHEET + sheet::WRONG.len();
+const WRONG_FILL: usize = WRONG_SHEET + sheet::WRONG.len();
+const WRONG_JOIN: usize = WRONG_FILL + fill::WRONG.len();
+const ALL_WRONG: usize = WRONG_JOIN + join::WRONG.len();
 
 /// The numbers that a refusal of each call can carry.
 const READ_NUMBERS: [usize; 8] = [1, 2, 3, 4, 5, 6, 7, 8];
 const PARTS_NUMBERS: [usize; 9] = [1, 2, 3, 4, 5, 6, 7, 8, 18];
 const SHEET_NUMBERS: [usize; 1] = [13];
+const FILL_NUMBERS: [usize; 12] = [1, 2, 3, 4, 5, 6, 7, 8, 12, 13, 15, 16];
+const JOIN_NUMBERS: [usize; 6] = [12, 13, 14, 15, 16, 17];
 
 /// What the gate's cases, or more, must hold for the comparison to mean something.
 const LEAST_OF_A_NUMBER: usize = 100;
@@ -92,15 +102,21 @@ impl Count {
     }
 }
 
-/// How often each number came.
+/// In how many cases each number came.
 #[derive(Default)]
 struct Tally {
     numbers: [usize; 19],
 }
 
 impl Tally {
-    fn add(&mut self, outcome: Outcome) {
-        self.numbers[outcome.number as usize] += 1;
+    /// The outcomes of one case.
+    fn add(&mut self, outcomes: &[Outcome]) {
+        let mut numbers: Vec<u32> = outcomes.iter().map(|outcome| outcome.number).collect();
+        numbers.sort();
+        numbers.dedup();
+        numbers
+            .iter()
+            .for_each(|&number| self.numbers[number as usize] += 1);
     }
 
     /// The numbers that a call can give, and beside them how often something else came.
@@ -142,14 +158,13 @@ impl Tally {
     }
 }
 
-/// Says which input it was, should a program panic.
-struct Running<'a>(&'a [u8], Option<u64>);
+/// Says which question it was, should a program panic.
+struct Running<'a, Q: Question>(&'a Q);
 
-impl Drop for Running<'_> {
+impl<Q: Question> Drop for Running<'_, Q> {
     fn drop(&mut self) {
         if std::thread::panicking() {
-            let k = self.1.map_or(String::new(), |k| format!(", k = {k}"));
-            eprintln!("compare: that was on the input {}{k}", hex(self.0));
+            eprintln!("compare: that was on the input {}", self.0);
         }
     }
 }
@@ -175,32 +190,32 @@ impl Progress {
     }
 }
 
-/// Makes an input small that differs.
-type Smallest = fn(&[u8], &dyn Fn(&[u8]) -> bool) -> Vec<u8>;
-
-/// The programs of `read` or `sheet`, and the sorts that are counted beside the numbers.
-struct BytesCall {
+/// The programs of a call, and what is counted beside the numbers.
+struct Call<Q: Question> {
     name: &'static str,
-    proved: Read,
-    fast: Read,
-    model: Read,
-    wrong: &'static [Wrong],
+    proved: Q::Program,
+    fast: Q::Program,
+    model: fn(&Q) -> Q::Said,
+    wrong: &'static [(&'static str, Q::Program)],
+    /// the wrong models of other calls that come before
     wrong_before: usize,
+    /// the gate's cases, and the numbers that they must hold
     gate: usize,
     numbers: &'static [usize],
-    smallest: Smallest,
+    /// makes a question small that differs
+    smallest: fn(&Q, &dyn Fn(&Q) -> bool) -> Q,
     head: [&'static str; 2],
     sorts: Vec<String>,
-    sort: fn(&[u8], Outcome) -> Option<usize>,
+    sort: fn(&Q, &Q::Said) -> Option<usize>,
     /// whether the gate's cases must hold enough of each sort, too
     every_sort: bool,
 }
 
-/// Compares `read` or `sheet`.
-fn compare_bytes(
-    call: &BytesCall,
-    fixed: Vec<Vec<u8>>,
-    generated: impl Iterator<Item = Vec<u8>>,
+/// Asks the programs of a call, and compares what they say.
+fn compare<Q: Question>(
+    call: &Call<Q>,
+    fixed: Vec<Q>,
+    generated: impl Iterator<Item = Q>,
     options: &Options,
     count: &mut Count,
 ) {
@@ -209,10 +224,9 @@ fn compare_bytes(
     } else {
         options.cases
     };
-    let proved = options
-        .instead(call.wrong, call.wrong_before)
-        .unwrap_or(call.proved);
-    let others: [(&str, Read); 2] = [("proved", proved), ("fast", call.fast)];
+    let instead = options.instead(call.wrong, call.wrong_before);
+    let proved = instead.unwrap_or(call.proved);
+    let others = [("proved", proved), ("fast", call.fast)];
     let mut told_apart = vec![None; call.wrong.len()];
     let mut tally = Tally::default();
     let mut sorts: Vec<(String, usize)> = call.sorts.iter().map(|sort| (sort.clone(), 0)).collect();
@@ -221,42 +235,43 @@ fn compare_bytes(
     let mut done = 0;
 
     let generated_from = fixed.len();
-    let inputs = fixed.into_iter().chain(generated);
-    for (i, bytes) in inputs.take(all).enumerate() {
-        let running = Running(&bytes, None);
-        let right = (call.model)(&bytes);
-        tally.add(right);
-        if let Some(sort) = (call.sort)(&bytes, right) {
+    let questions = fixed.into_iter().chain(generated);
+    for (i, question) in questions.take(all).enumerate() {
+        let running = Running(&question);
+        let right = (call.model)(&question);
+        tally.add(&Q::outcomes(&right));
+        if let Some(sort) = (call.sort)(&question, &right) {
             sorts[sort].1 += 1;
         }
         let mut same = true;
         for (name, other) in others {
-            if other(&bytes) != right {
-                same = false;
-                if differences < SHOWN {
-                    println!(
-                        "{}: case {i}: {name} says {}, the model {right}",
-                        call.name,
-                        other(&bytes)
-                    );
-                    let small =
-                        (call.smallest)(&bytes, &|bytes| other(bytes) != (call.model)(bytes));
-                    println!("  smallest input found: {}", hex(&small));
-                    println!(
-                        "  {name} says {}, the model {}",
-                        other(&small),
-                        (call.model)(&small)
-                    );
-                }
-                differences += 1;
+            let said = question.ask(other);
+            if said == right {
+                continue;
             }
+            same = false;
+            if differences < SHOWN {
+                println!(
+                    "{}: case {i}: {name} says {said}, the model {right}",
+                    call.name
+                );
+                let small =
+                    (call.smallest)(&question, &|small| small.ask(other) != (call.model)(small));
+                println!("  smallest input found: {small}");
+                println!(
+                    "  {name} says {}, the model {}",
+                    small.ask(other),
+                    (call.model)(&small)
+                );
+            }
+            differences += 1;
         }
         count.of(same);
         done += 1;
         // the generated cases have to tell them apart: the fixed ones would do it too easily
         if i >= generated_from {
             for ((_, wrong), told) in call.wrong.iter().zip(&mut told_apart) {
-                if told.is_none() && wrong(&bytes) != right {
+                if told.is_none() && question.ask(*wrong) != right {
                     *told = Some(i + 1 - generated_from);
                 }
             }
@@ -320,135 +335,234 @@ fn print_wrong<T>(
     }
 }
 
-/// The programs of `child` or `name`.
-struct PartsCall {
-    name: &'static str,
-    proved: Parts,
-    fast: Parts,
-    model: Parts,
-    wrong: &'static [WrongParts],
-    wrong_before: usize,
+fn compare_read(options: &Options, count: &mut Count) {
+    let call = Call::<Bytes> {
+        name: "read",
+        proved: read::proved,
+        fast: read::fast::<0>,
+        model: |bytes| read::model(&bytes.0),
+        wrong: &WRONG,
+        wrong_before: 0,
+        gate: READ_CASES,
+        numbers: &READ_NUMBERS,
+        smallest: |bytes, differs| Bytes(shrink(&bytes.0, |bytes| differs(&Bytes(bytes.to_vec())))),
+        head: ["depth", "answers"],
+        sorts: (1..=16).map(|depth: usize| depth.to_string()).collect(),
+        sort: |_, right| (right.extra as usize).checked_sub(1),
+        every_sort: false,
+    };
+    let fixed = cases::always().into_iter().map(Bytes).collect();
+    let generated = Inputs::new(options.seed).map(Bytes);
+    compare(&call, fixed, generated, options, count);
 }
 
-impl PartsCall {
-    /// How many parts an encoding has, or nothing if it is bad.
-    fn parts(&self, bytes: &[u8]) -> Option<u64> {
-        let none = (self.model)(bytes, u64::MAX);
-        (none.number == 18).then_some(none.place.into())
-    }
-
-    /// The simplest k at which a program differs from the model: this one, or one near the first
-    /// part or the last.
-    fn telling_k(&self, other: Parts, bytes: &[u8], k: u64) -> Option<u64> {
-        let parts = self.parts(bytes).unwrap_or(0);
-        let last = parts.saturating_sub(1);
-        [0, 1, 2, last, parts, parts + 1, k]
-            .into_iter()
-            .find(|&k| other(bytes, k) != (self.model)(bytes, k))
-    }
+fn compare_sheet(options: &Options, count: &mut Count) {
+    let call = Call::<Bytes> {
+        name: "sheet",
+        proved: sheet::proved,
+        fast: sheet::fast::<0>,
+        model: |bytes| sheet::model(&bytes.0),
+        wrong: &sheet::WRONG,
+        wrong_before: WRONG_SHEET,
+        gate: SHEET_CASES,
+        numbers: &SHEET_NUMBERS,
+        smallest: |bytes, differs| {
+            Bytes(shrink_sheet(&bytes.0, |bytes| {
+                differs(&Bytes(bytes.to_vec()))
+            }))
+        },
+        head: ["13, as the fast check sees it", "cases"],
+        sorts: Rule::ALL.map(String::from).into(),
+        sort: |bytes, _| {
+            check::<0>(&bytes.0)
+                .err()
+                .map(|broken| broken.rule as usize)
+        },
+        every_sort: true,
+    };
+    let fixed = cases::sheets::always().into_iter().map(Bytes).collect();
+    let generated = SheetInputs::new(options.seed).map(Bytes);
+    compare(&call, fixed, generated, options, count);
 }
 
 /// Compares `child` or `name`, with one k for each input.
-fn compare_parts(call: &PartsCall, options: &Options, count: &mut Count) {
-    let all = if options.gate {
-        PARTS_CASES
-    } else {
-        options.cases
-    };
-    let proved = options
-        .instead(call.wrong, call.wrong_before)
-        .unwrap_or(call.proved);
-    let others: [(&str, Parts); 2] = [("proved", proved), ("fast", call.fast)];
-    let mut told_apart = vec![None; call.wrong.len()];
-    let mut tally = Tally::default();
-    let mut kinds_of_k = ["0", "1", "below", "count", "count+1", "more"].map(|kind| (kind, 0));
-    let mut progress = Progress::new();
-    let mut differences = 0;
-    let mut done = 0;
-
+fn compare_parts(call: &Call<Part>, model: Parts, options: &Options, count: &mut Count) {
     let mut random = Random::new(!options.seed);
-    let fixed = cases::always();
-    let generated_from = fixed.len();
-    let inputs = fixed
-        .into_iter()
-        .chain(cases::PartInputs::new(options.seed));
-    for (i, bytes) in inputs.take(all).enumerate() {
-        let parts = call.parts(&bytes);
-        let k = cases::any_k(&mut random, parts.unwrap_or(0));
-        let running = Running(&bytes, Some(k));
-        let right = (call.model)(&bytes, k);
-        tally.add(right);
-        if let Some(parts) = parts {
-            let kind = match k {
-                _ if k == parts => 3,
-                _ if k == parts + 1 => 4,
-                _ if k > parts => 5,
-                0 | 1 => k as usize,
-                _ => 2,
-            };
-            kinds_of_k[kind].1 += 1;
-        }
-        let mut same = true;
-        for (name, other) in others {
-            if other(&bytes, k) != right {
-                same = false;
-                if differences < SHOWN {
-                    println!(
-                        "{}: case {i}, k = {k}: {name} says {}, the model {right}",
-                        call.name,
-                        other(&bytes, k)
-                    );
-                    let small = shrink(&bytes, |bytes| call.telling_k(other, bytes, k).is_some());
-                    let k = call.telling_k(other, &small, k).unwrap_or(k);
-                    println!("  smallest input found: {}, k = {k}", hex(&small));
-                    println!(
-                        "  {name} says {}, the model {}",
-                        other(&small, k),
-                        (call.model)(&small, k)
-                    );
-                }
-                differences += 1;
+    let mut part = |bytes| Part::new(bytes, model, |parts| any_k(&mut random, parts));
+    let fixed = cases::always().into_iter().map(&mut part).collect();
+    let generated = PartInputs::new(options.seed).map(&mut part);
+    compare(call, fixed, generated, options, count);
+}
+
+/// The sorts of k, and which one it is.
+const SORTS_OF_K: [&str; 6] = ["0", "1", "below", "count", "count+1", "more"];
+
+fn sort_of_k(part: &Part, _: &Outcome) -> Option<usize> {
+    let parts = part.parts?;
+    Some(match part.k {
+        k if k == parts => 3,
+        k if k == parts + 1 => 4,
+        k if k > parts => 5,
+        k @ (0 | 1) => k as usize,
+        _ => 2,
+    })
+}
+
+fn compare_child(options: &Options, count: &mut Count) {
+    let call = Call::<Part> {
+        name: "child",
+        proved: child::proved,
+        fast: child::fast,
+        model: |part| part.ask(child::model),
+        wrong: &child::WRONG,
+        wrong_before: WRONG_CHILD,
+        gate: PARTS_CASES,
+        numbers: &PARTS_NUMBERS,
+        smallest: |part, differs| part.smallest(child::model, differs),
+        head: ["k", "accepted"],
+        sorts: SORTS_OF_K.map(String::from).into(),
+        sort: sort_of_k,
+        every_sort: false,
+    };
+    compare_parts(&call, child::model, options, count);
+}
+
+fn compare_name(options: &Options, count: &mut Count) {
+    let call = Call::<Part> {
+        name: "name",
+        proved: name::proved,
+        fast: name::fast,
+        model: |part| part.ask(name::model),
+        wrong: &name::WRONG,
+        wrong_before: WRONG_NAME,
+        gate: PARTS_CASES,
+        numbers: &PARTS_NUMBERS,
+        smallest: |part, differs| part.smallest(name::model, differs),
+        head: ["k", "accepted"],
+        sorts: SORTS_OF_K.map(String::from).into(),
+        sort: sort_of_k,
+        every_sort: false,
+    };
+    compare_parts(&call, name::model, options, count);
+}
+
+/// Compares `fill` or `join`, with several lent buffers for each pair of inputs.
+fn compare_pairs(
+    call: &Call<Pair>,
+    whole: Whole,
+    fixed: Vec<(Vec<u8>, Vec<u8>)>,
+    generated: impl Iterator<Item = (Vec<u8>, Vec<u8>)>,
+    options: &Options,
+    count: &mut Count,
+) {
+    let pair = |(first, second)| Pair::new(first, second, whole);
+    let fixed = fixed.into_iter().map(pair).collect();
+    compare(call, fixed, generated.map(pair), options, count);
+}
+
+fn compare_fill(options: &Options, count: &mut Count) {
+    let call = Call::<Pair> {
+        name: "fill",
+        proved: fill::proved,
+        fast: fill::fast::<0>,
+        model: Pair::right,
+        wrong: &fill::WRONG,
+        wrong_before: WRONG_FILL,
+        gate: PAIR_CASES,
+        numbers: &FILL_NUMBERS,
+        smallest: |pair, differs| pair.smallest(fill::whole, differs),
+        head: ["answer", "cases"],
+        sorts: ["the template", "another", "of 2,048 bytes"]
+            .map(String::from)
+            .into(),
+        sort: |pair, _| match &pair.whole {
+            Ok(answer) if answer.len() == 2048 => Some(2),
+            Ok(answer) => Some((*answer != pair.first) as usize),
+            Err(_) => None,
+        },
+        every_sort: true,
+    };
+    let generated = FillInputs::new(options.seed);
+    let fixed = cases::fills::always_fill();
+    compare_pairs(&call, fill::whole, fixed, generated, options, count);
+}
+
+fn compare_join(options: &Options, count: &mut Count) {
+    let call = Call::<Pair> {
+        name: "join",
+        proved: join::proved,
+        fast: join::fast::<0>,
+        model: Pair::right,
+        wrong: &join::WRONG,
+        wrong_before: WRONG_JOIN,
+        gate: PAIR_CASES,
+        numbers: &JOIN_NUMBERS,
+        smallest: |pair, differs| pair.smallest(join::whole, differs),
+        head: ["answer or 17", "cases"],
+        sorts: ["one of the two", "another", "17 by entries", "17 by bytes"]
+            .map(String::from)
+            .into(),
+        sort: |pair, _| match &pair.whole {
+            Ok(joined) => Some((*joined != pair.first && *joined != pair.second) as usize),
+            Err(refusal) if refusal.number != 17 => None,
+            // 64 entries are the most that there could be
+            Err(refusal) => Some(if refusal.place <= 64 { 2 } else { 3 }),
+        },
+        every_sort: true,
+    };
+    let generated = JoinInputs::new(options.seed);
+    let fixed = cases::fills::always_join();
+    compare_pairs(&call, join::whole, fixed, generated, options, count);
+}
+
+/// What must hold over whole answers of the proved calls, whatever they are: filling twice is filling
+/// with the joined sheet, it does not matter which two of three sheets are joined first, and the empty
+/// sheet changes nothing. Where the first stage is answered, the refusals must be the same, too.
+fn compare_chains(options: &Options, count: &mut Count) {
+    const EMPTY: [u8; 4] = [0; 4];
+    let (fill, join) = (shiulbart::fill_to_vec, shiulbart::join_to_vec);
+    let all = if options.gate { CHAINS } else { options.cases };
+    let start = Instant::now();
+    let mut looked_at = ["fill twice", "join three", "empty sheet"].map(|what| (what, 0, 0));
+    let mut differs = 0;
+    for [template, a, b, c] in Chains::new(options.seed).take(all) {
+        let mut law = |which: usize, left: Result<Vec<u8>, _>, right: Result<Vec<u8>, _>| {
+            looked_at[which].1 += 1;
+            looked_at[which].2 += left.is_ok() as usize;
+            count.of(left == right);
+            if left != right && differs < SHOWN {
+                differs += 1;
+                println!("{}: {left:02X?} and {right:02X?}", looked_at[which].0);
+                let on = [&template, &a, &b, &c].map(|bytes| hex(bytes));
+                println!("  on {}", on.join(" | "));
             }
+        };
+        let (ab, bc) = (join(&a, &b), join(&b, &c));
+        if let (Ok(ab), Ok(once)) = (&ab, fill(&template, &a)) {
+            law(0, fill(&once, &b), fill(&template, ab));
         }
-        count.of(same);
-        done += 1;
-        if i >= generated_from {
-            for ((_, wrong), told) in call.wrong.iter().zip(&mut told_apart) {
-                if told.is_none() && wrong(&bytes, k) != right {
-                    *told = Some(i + 1 - generated_from);
-                }
-            }
+        if let (Ok(ab), Ok(bc)) = (&ab, &bc) {
+            law(1, join(ab, &c), join(&a, bc));
         }
-        drop(running);
-        if differences >= GIVEN_UP {
-            println!("{}: given up after {differences} differences", call.name);
-            break;
+        if shiulbart::read(&template).is_ok() {
+            law(2, fill(&template, &EMPTY), Ok(template.clone()));
         }
-        if !options.gate {
-            progress.tell(call.name, done, all);
+        if shiulbart::sheet(&a).is_ok() {
+            law(2, join(&a, &EMPTY), Ok(a.clone()));
+            law(2, join(&EMPTY, &a), Ok(a.clone()));
         }
     }
-
-    let seconds = progress.start.elapsed().as_secs_f64();
+    let seconds = start.elapsed().as_secs_f64();
     println!(
-        "{}: {done} cases, {generated_from} of them fixed, seed {}, {seconds:.1} s",
-        call.name, options.seed
+        "laws: {all} templates with three sheets, seed {}, {seconds:.1} s",
+        options.seed
     );
-    let kinds_of_k = kinds_of_k.map(|(kind, times)| (kind.to_string(), times));
-    tally.print(&PARTS_NUMBERS, ["k", "accepted"], &kinds_of_k);
-    print_wrong(
-        call.wrong,
-        call.wrong_before,
-        &told_apart,
-        all >= PARTS_CASES,
-        count,
-    );
-    if all >= PARTS_CASES {
-        tally.check(call.name, all, &PARTS_NUMBERS, count);
-    } else {
-        println!(
-            "  under {PARTS_CASES} cases neither every number nor every wrong model is demanded"
-        );
+    for (what, times, answered) in looked_at {
+        println!("  {what:>12}: looked at {times:>6} times, {answered:>6} of them answered");
+        if all >= CHAINS && answered < all / LEAST_ANSWERED {
+            println!("laws: {what}: under 1 case in {LEAST_ANSWERED} was answered");
+            count.failed += 1;
+        }
     }
 }
 
@@ -458,59 +572,13 @@ fn main() -> ExitCode {
         return ExitCode::from(2);
     };
     let mut count = Count::default();
-    let read = BytesCall {
-        name: "read",
-        proved: read::proved,
-        fast: read::fast::<0>,
-        model: read::model,
-        wrong: &WRONG,
-        wrong_before: 0,
-        gate: READ_CASES,
-        numbers: &READ_NUMBERS,
-        smallest: |bytes, differs| shrink(bytes, differs),
-        head: ["depth", "answers"],
-        sorts: (1..=16).map(|depth: usize| depth.to_string()).collect(),
-        sort: |_, right| (right.extra as usize).checked_sub(1),
-        every_sort: false,
-    };
-    let generated = cases::Inputs::new(options.seed);
-    compare_bytes(&read, cases::always(), generated, &options, &mut count);
-    let child = PartsCall {
-        name: "child",
-        proved: child::proved,
-        fast: child::fast,
-        model: child::model,
-        wrong: &child::WRONG,
-        wrong_before: WRONG_CHILD,
-    };
-    compare_parts(&child, &options, &mut count);
-    let name = PartsCall {
-        name: "name",
-        proved: name::proved,
-        fast: name::fast,
-        model: name::model,
-        wrong: &name::WRONG,
-        wrong_before: WRONG_NAME,
-    };
-    compare_parts(&name, &options, &mut count);
-    let sheet = BytesCall {
-        name: "sheet",
-        proved: sheet::proved,
-        fast: sheet::fast::<0>,
-        model: sheet::model,
-        wrong: &sheet::WRONG,
-        wrong_before: WRONG_SHEET,
-        gate: SHEET_CASES,
-        numbers: &SHEET_NUMBERS,
-        smallest: |bytes, differs| shrink_sheet(bytes, differs),
-        head: ["13, as the fast check sees it", "cases"],
-        sorts: Rule::ALL.map(String::from).into(),
-        sort: |bytes, _| check::<0>(bytes).err().map(|broken| broken.rule as usize),
-        every_sort: true,
-    };
-    let fixed = cases::sheets::always();
-    let generated = cases::sheets::SheetInputs::new(options.seed);
-    compare_bytes(&sheet, fixed, generated, &options, &mut count);
+    compare_read(&options, &mut count);
+    compare_child(&options, &mut count);
+    compare_name(&options, &mut count);
+    compare_sheet(&options, &mut count);
+    compare_fill(&options, &mut count);
+    compare_join(&options, &mut count);
+    compare_chains(&options, &mut count);
     println!("{} passed, {} failed", count.passed, count.failed);
     match count.failed {
         0 => ExitCode::SUCCESS,

@@ -7,8 +7,8 @@ use super::{
 use crate::fast;
 use crate::random::Random;
 
-const MAX_ENTRIES: usize = 32;
-const MAX_ENCODINGS: usize = 16_384;
+pub(super) const MAX_ENTRIES: usize = 32;
+pub(super) const MAX_ENCODINGS: usize = 16_384;
 
 /// A sheet to write. Its parts need not fit one another.
 #[derive(Clone)]
@@ -119,7 +119,7 @@ impl Iterator for SheetInputs {
 }
 
 /// Blank numbers that rise, in different ways.
-fn blanks(random: &mut Random, count: usize) -> Vec<u16> {
+pub(super) fn blanks(random: &mut Random, count: usize) -> Vec<u16> {
     let from = random.pick(&[0, 0, 1, 31, 255, 256, 65_535 - 33]);
     let mut blanks: Vec<u16> = match random.below(4) {
         0 => (0..count as u16).map(|i| from + i).collect(),
@@ -150,7 +150,7 @@ fn accepted(random: &mut Random, most: usize, large: bool) -> Vec<u8> {
 }
 
 /// A sound sheet of 0 to 32 entries.
-fn sound(random: &mut Random) -> Sheet {
+pub(super) fn sound(random: &mut Random) -> Sheet {
     let count = match random.below(4) {
         0 => random.pick(&[0, 0, 1, 1, 2, 31, 32, 32]),
         1 => random.between(0, 6),
@@ -224,7 +224,7 @@ fn at_the_limits(random: &mut Random) -> Sheet {
 }
 
 /// A sheet in which one to three things are broken, and which may be cut.
-fn several_broken(random: &mut Random) -> Vec<u8> {
+pub(super) fn several_broken(random: &mut Random) -> Vec<u8> {
     let mut sheet = match random.below(12) {
         0 => at_the_limits(random),
         _ => sound(random),

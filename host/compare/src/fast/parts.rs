@@ -81,7 +81,7 @@ pub fn name(bytes: &[u8], k: u64) -> Result<(usize, usize), Refusal> {
 
 /// The good LEB128 number at a place, and the place after it.
 #[inline(always)]
-fn leb128(bytes: &[u8], at: usize) -> (usize, usize) {
+pub(super) fn leb128(bytes: &[u8], at: usize) -> (usize, usize) {
     match bytes[at] {
         low @ 0..=127 => (low as usize, at + 1),
         low => ((low & 127) as usize + 128 * bytes[at + 1] as usize, at + 2),
@@ -90,7 +90,7 @@ fn leb128(bytes: &[u8], at: usize) -> (usize, usize) {
 
 /// The place after the text whose length stands at a place.
 #[inline(always)]
-fn past_text(bytes: &[u8], at: usize) -> usize {
+pub(super) fn past_text(bytes: &[u8], at: usize) -> usize {
     let (length, from) = leb128(bytes, at);
     from + length
 }

@@ -1,7 +1,8 @@
 //! The sheet check written in Rust for speed: one loop over the entries for their numbers and
 //! lengths, and one for the encodings, in which one of one byte is taken without a call.
 //!
-//! `check::<0>` is right. Any other number puts one fault in, as for the reader.
+//! `check::<0>` is right. Any other number puts one fault in, as for the reader. `check_each` hands
+//! each entry on as its encoding is read, to `fill` and `join`.
 
 use super::read;
 
@@ -56,6 +57,15 @@ pub struct Broken {
     pub place: u32,
 }
 
+/// An entry whose encoding was read.
+pub struct Entry {
+    pub blank: usize,
+    /// where its encoding starts in the sheet, and how long and deep it is
+    pub start: usize,
+    pub length: usize,
+    pub depth: u32,
+}
+
 /// The faults of the wrong models, one each.
 pub mod fault {
     pub const REFUSES_EVERYTHING: u8 = 1;
@@ -90,12 +100,21 @@ fn broken<T>(rule: Rule, place: usize) -> Result<T, Broken> {
 }
 
 #[inline(always)]
-fn number(low: u8, high: u8) -> usize {
+pub(super) fn number(low: u8, high: u8) -> usize {
     u16::from_le_bytes([low, high]) as usize
 }
 
 /// Checks a sheet, whatever the bytes are.
 pub fn check<const FAULT: u8>(bytes: &[u8]) -> Result<Checked, Broken> {
+    check_each::<FAULT>(bytes, |_| ())
+}
+
+/// Checks a sheet. The entries handed on mean nothing if it is refused.
+#[inline(always)]
+pub fn check_each<const FAULT: u8>(
+    bytes: &[u8],
+    mut each: impl FnMut(Entry),
+) -> Result<Checked, Broken> {
     if FAULT == REFUSES_EVERYTHING {
         return broken(Rule::NoCount, 0);
     }
@@ -142,7 +161,7 @@ pub fn check<const FAULT: u8>(bytes: &[u8]) -> Result<Checked, Broken> {
         return broken(Rule::EncodingsCut, second_count);
     }
     if FAULT == ENCODINGS_FIRST {
-        encodings_are_good::<FAULT>(entries, encodings)?;
+        encodings_are_good::<FAULT>(entries, encodings, |_| ())?;
     }
     if encodings.len() > total && FAULT != LEFT_OVER {
         let place = if FAULT == LEFT_OVER_AT_COUNT {
@@ -153,7 +172,7 @@ pub fn check<const FAULT: u8>(bytes: &[u8]) -> Result<Checked, Broken> {
         return broken(Rule::LeftOver, place);
     }
     if FAULT != NOT_READ {
-        encodings_are_good::<FAULT>(entries, encodings)?;
+        encodings_are_good::<FAULT>(entries, encodings, &mut each)?;
     }
     Ok(Checked {
         entries: count,
@@ -195,28 +214,42 @@ fn entries_are_good<const FAULT: u8>(
 
 /// Reads each encoding. (Only with a fault can there be too few bytes.)
 #[inline(always)]
-fn encodings_are_good<const FAULT: u8>(entries: &[u8], encodings: &[u8]) -> Result<(), Broken> {
+fn encodings_are_good<const FAULT: u8>(
+    entries: &[u8],
+    encodings: &[u8],
+    mut each: impl FnMut(Entry),
+) -> Result<(), Broken> {
     let mut left = encodings;
     let last = (entries.len() / 4).wrapping_sub(1);
     for (index, entry) in entries.chunks_exact(4).enumerate() {
+        let start = 4 + entries.len() + encodings.len() - left.len();
         let length = number(entry[2], entry[3]);
         let (own, after) = left.split_at(length.min(left.len()));
         if FAULT == LAST_NOT_READ && index == last {
             break;
         }
         left = after;
-        if let [0..=36 | 96..=125] = own {
-            continue;
-        }
-        if let Err(refusal) = read::<0>(own) {
-            let start = 4 + entries.len() + encodings.len() - after.len() - own.len();
-            let place = match FAULT {
-                PLACE_IN_ENCODING => refusal.place as usize,
-                PLACE_IN_SHEET => start + refusal.place as usize,
-                _ => index,
-            };
-            return broken(Rule::BadEncoding, place);
-        }
+        let depth = match own {
+            [0..=36] => 1,
+            [96..=125] => 2,
+            _ => match read::<0>(own) {
+                Ok(accepted) => accepted.depth,
+                Err(refusal) => {
+                    let place = match FAULT {
+                        PLACE_IN_ENCODING => refusal.place as usize,
+                        PLACE_IN_SHEET => start + refusal.place as usize,
+                        _ => index,
+                    };
+                    return broken(Rule::BadEncoding, place);
+                }
+            },
+        };
+        each(Entry {
+            blank: number(entry[0], entry[1]),
+            start,
+            length,
+            depth,
+        });
     }
     Ok(())
 }

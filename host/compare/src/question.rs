@@ -1,0 +1,234 @@
+//! What a call is asked: bytes, a part of them, or two inputs and lent buffers. Programs are asked,
+//! what they say is compared, and a question on which they differ can be made smaller.
+
+use crate::shrink::{shrink, shrink_sheet};
+use crate::{hex, Lends, Outcome, Parts, Whole};
+use std::fmt;
+use std::sync::OnceLock;
+
+pub trait Question: fmt::Display + Sized {
+    /// a function that stands for the call
+    type Program: Copy + 'static;
+    /// all that it says
+    type Said: PartialEq + fmt::Display;
+
+    fn ask(&self, program: Self::Program) -> Self::Said;
+
+    /// The outcomes in what was said: one, or one for each lent buffer.
+    fn outcomes(said: &Self::Said) -> Vec<Outcome>;
+}
+
+/// Bytes alone, for `read` and `sheet`.
+pub struct Bytes(pub Vec<u8>);
+
+impl Question for Bytes {
+    type Program = fn(&[u8]) -> Outcome;
+    type Said = Outcome;
+
+    fn ask(&self, program: Self::Program) -> Outcome {
+        program(&self.0)
+    }
+
+    fn outcomes(said: &Outcome) -> Vec<Outcome> {
+        vec![*said]
+    }
+}
+
+impl fmt::Display for Bytes {
+    fn fmt(&self, out: &mut fmt::Formatter<'_>) -> fmt::Result {
+        write!(out, "{}", hex(&self.0))
+    }
+}
+
+/// Part k of an encoding, for `child` and `name`.
+pub struct Part {
+    pub bytes: Vec<u8>,
+    pub k: u64,
+    /// how many parts there are, or nothing if the encoding is bad
+    pub parts: Option<u64>,
+}
+
+impl Part {
+    /// Any k, once it is known how many parts there are.
+    pub fn new(bytes: Vec<u8>, model: Parts, k: impl FnOnce(u64) -> u64) -> Part {
+        let none = model(&bytes, u64::MAX);
+        let parts = (none.number == 18).then_some(none.place.into());
+        let k = k(parts.unwrap_or(0));
+        Part { bytes, k, parts }
+    }
+
+    /// The smallest found that differs, at a k that is near the first part or the last if it can be.
+    pub fn smallest(&self, model: Parts, differs: &dyn Fn(&Part) -> bool) -> Part {
+        let telling = |bytes: &[u8]| {
+            (0..7)
+                .map(|i| {
+                    Part::new(bytes.to_vec(), model, |parts| {
+                        let last = parts.saturating_sub(1);
+                        [0, 1, 2, last, parts, parts + 1, self.k][i]
+                    })
+                })
+                .find(|part| differs(part))
+        };
+        let small = shrink(&self.bytes, |bytes| telling(bytes).is_some());
+        telling(&small).expect("it differs")
+    }
+}
+
+impl Question for Part {
+    type Program = Parts;
+    type Said = Outcome;
+
+    fn ask(&self, program: Parts) -> Outcome {
+        program(&self.bytes, self.k)
+    }
+
+    fn outcomes(said: &Outcome) -> Vec<Outcome> {
+        vec![*said]
+    }
+}
+
+impl fmt::Display for Part {
+    fn fmt(&self, out: &mut fmt::Formatter<'_>) -> fmt::Result {
+        write!(out, "{}, k = {}", hex(&self.bytes), self.k)
+    }
+}
+
+/// Two inputs and the lengths of the lent buffers, for `fill` and `join`.
+pub struct Pair {
+    pub first: Vec<u8>,
+    pub second: Vec<u8>,
+    pub rooms: Vec<usize>,
+    /// what the model makes of them
+    pub whole: Result<Vec<u8>, model::Refusal>,
+}
+
+/// An outcome, and the buffer afterwards.
+#[derive(PartialEq)]
+pub struct Lent {
+    pub outcome: Outcome,
+    pub buffer: Vec<u8>,
+}
+
+/// What a program says with each lent buffer.
+#[derive(PartialEq)]
+pub struct AllLent(pub Vec<Lent>);
+
+/// The first bytes of a pattern that differs by position, as long as every buffer.
+fn pattern(length: usize) -> &'static [u8] {
+    static PATTERN: OnceLock<Vec<u8>> = OnceLock::new();
+    let byte = |place: usize| (7 * place + place / 256 + 3) as u8;
+    &PATTERN.get_or_init(|| (0..24_000).map(byte).collect())[..length]
+}
+
+impl Pair {
+    /// With buffers of each length that matters: with room for the answer and without, and if there
+    /// is none, of no byte and of more than any answer takes.
+    pub fn new(first: Vec<u8>, second: Vec<u8>, whole: Whole) -> Pair {
+        let whole = whole(&first, &second);
+        let mut rooms = match &whole {
+            Ok(answer) => {
+                let needed = answer.len();
+                let far = needed + 100 + needed % 3000;
+                vec![0, needed / 2, needed - 1, needed, needed + 1, far]
+            }
+            Err(_) => vec![0, 5, 2048, 17_000],
+        };
+        rooms.dedup();
+        Pair {
+            first,
+            second,
+            rooms,
+            whole,
+        }
+    }
+
+    /// What the model says with each lent buffer. That 12 comes last, and what is done to a buffer,
+    /// is written here once more; a test holds it to the model's own 12.
+    pub fn right(&self) -> AllLent {
+        let with = |&room: &usize| {
+            let mut buffer = pattern(room).to_vec();
+            let outcome = match &self.whole {
+                Err(refusal) => Outcome::refusal(refusal.number, refusal.place),
+                Ok(answer) if room < answer.len() => Outcome::refusal(12, answer.len() as u32),
+                Ok(answer) => {
+                    buffer[..answer.len()].copy_from_slice(answer);
+                    Outcome::answer(answer.len(), 0)
+                }
+            };
+            Lent { outcome, buffer }
+        };
+        AllLent(self.rooms.iter().map(with).collect())
+    }
+
+    /// The smallest found that differs, with the one buffer that shows it.
+    pub fn smallest(&self, whole: Whole, differs: &dyn Fn(&Pair) -> bool) -> Pair {
+        let telling = |first: &[u8], second: &[u8]| {
+            let pair = Pair::new(first.to_vec(), second.to_vec(), whole);
+            differs(&pair).then_some(pair)
+        };
+        let (mut first, mut second) = (self.first.clone(), self.second.clone());
+        loop {
+            let before = first.len() + second.len();
+            second = shrink_sheet(&second, |second| telling(&first, second).is_some());
+            // a template is made smaller as a sheet is that has no entries to drop
+            first = shrink_sheet(&first, |first| telling(first, &second).is_some());
+            if first.len() + second.len() == before {
+                break;
+            }
+        }
+        let pair = Pair::new(first, second, whole);
+        let with = |room| Pair {
+            first: pair.first.clone(),
+            second: pair.second.clone(),
+            rooms: vec![room],
+            whole: pair.whole.clone(),
+        };
+        let telling = pair
+            .rooms
+            .iter()
+            .map(|&room| with(room))
+            .find(|pair| differs(pair));
+        telling.expect("it differs with one of the buffers")
+    }
+}
+
+impl Question for Pair {
+    type Program = Lends;
+    type Said = AllLent;
+
+    fn ask(&self, program: Lends) -> AllLent {
+        let with = |&room: &usize| {
+            let mut buffer = pattern(room).to_vec();
+            let outcome = program(&self.first, &self.second, &mut buffer);
+            Lent { outcome, buffer }
+        };
+        AllLent(self.rooms.iter().map(with).collect())
+    }
+
+    fn outcomes(said: &AllLent) -> Vec<Outcome> {
+        said.0.iter().map(|lent| lent.outcome).collect()
+    }
+}
+
+impl fmt::Display for Pair {
+    fn fmt(&self, out: &mut fmt::Formatter<'_>) -> fmt::Result {
+        let rooms: Vec<String> = self.rooms.iter().map(usize::to_string).collect();
+        let (first, second) = (hex(&self.first), hex(&self.second));
+        write!(out, "{first} | {second} | {} bytes lent", rooms.join(", "))
+    }
+}
+
+impl fmt::Display for AllLent {
+    fn fmt(&self, out: &mut fmt::Formatter<'_>) -> fmt::Result {
+        for (i, Lent { outcome, buffer }) in self.0.iter().enumerate() {
+            let comma = if i == 0 { "" } else { ", " };
+            write!(out, "{comma}{outcome}")?;
+            // what is in a long buffer would not be read
+            match buffer.len() {
+                1..=64 => write!(out, " [{}]", hex(buffer))?,
+                _ => (),
+            }
+        }
+        Ok(())
+    }
+}
