@@ -6,7 +6,7 @@
 //! `fill::<0>` and `join::<0>` are right. Any other number puts one fault in, as for the reader.
 
 use super::parts::{leb128, past_text};
-use super::sheet::{check_each, number, Entry};
+use super::sheet::{check, check_each, number, Entry};
 use super::{read, refused, Refusal};
 use super::{ARRAY, FUNCTION, MAP, MAX_BYTES, MAX_LEVELS, RECORD, SYMBOL, VARIABLE};
 
@@ -457,11 +457,12 @@ fn lent<const FAULT: u8>(
     Ok(needed)
 }
 
-/// Reads the entries of a sheet, or refuses it with this number.
-#[inline(always)]
-fn checked(sheet: &[u8], number: u32, each: impl FnMut(Entry)) -> Result<(), Refusal> {
-    match check_each::<0>(sheet, each) {
-        Ok(_) => Ok(()),
+/// What a sheet puts, or a refusal with this number. (No part of `fill` and `join`, so that there is
+/// one for all faults.)
+fn puts_of(sheet: &[u8], number: u32) -> Result<Puts<'_>, Refusal> {
+    let mut puts = Puts::none(sheet);
+    match check_each::<0>(sheet, |entry| puts.add(entry)) {
+        Ok(_) => Ok(puts),
         Err(broken) => refused(number, broken.place as usize),
     }
 }
@@ -469,8 +470,7 @@ fn checked(sheet: &[u8], number: u32, each: impl FnMut(Entry)) -> Result<(), Ref
 /// Length and depth of what is made of a template, if it and the sheet are good.
 pub fn measured(template: &[u8], sheet: &[u8]) -> Option<(usize, u32)> {
     read::<0>(template).ok()?;
-    let mut puts = Puts::none(sheet);
-    checked(sheet, SHEET_BROKEN, |entry| puts.add(entry)).ok()?;
+    let puts = puts_of(sheet, SHEET_BROKEN).ok()?;
     let made = puts.measure::<0>(template, 0);
     Some((made.length, made.depth))
 }
@@ -485,27 +485,31 @@ pub fn fill<const FAULT: u8>(
         return refused(SHEET_BROKEN, 0);
     }
     if FAULT == SHEET_FIRST {
-        checked(sheet, SHEET_BROKEN, |_| ())?;
+        puts_of(sheet, SHEET_BROKEN)?;
     }
     let accepted = read::<0>(template)?;
-    let mut puts = Puts::none(sheet);
-    let mut deepest = 1;
-    let mut stages = Ok(());
-    checked(sheet, SHEET_BROKEN, |entry| {
-        if FAULT == DEPTH_OF_ALL {
-            deepest = entry.depth.max(deepest);
-        }
-        if FAULT != COPIES_TEMPLATE {
-            puts.add(entry);
-        }
-        if FAULT == STAGE_BY_STAGE && stages.is_ok() {
-            stages = within::<0>(&puts.measure::<0>(template, 0), 0);
-        }
-    })?;
-    stages?;
+    let mut puts = puts_of(sheet, SHEET_BROKEN)?;
     let mut made = puts.measure::<FAULT>(template, 0);
-    if FAULT == DEPTH_OF_ALL {
-        made.depth = accepted.depth - 1 + deepest;
+    match FAULT {
+        COPIES_TEMPLATE => {
+            puts = Puts::none(sheet);
+            made = puts.measure::<0>(template, 0);
+        }
+        STAGE_BY_STAGE => {
+            let mut stage = Puts::none(sheet);
+            let mut fits = Ok(());
+            _ = check_each::<0>(sheet, |entry| {
+                stage.add(entry);
+                fits = fits.and(within::<0>(&stage.measure::<0>(template, 0), 0));
+            });
+            fits?;
+        }
+        DEPTH_OF_ALL => {
+            let puts = puts.short[..32].iter().chain(&puts.long);
+            let deepest = puts.map(|put| put.depth).max().unwrap_or(1);
+            made.depth = accepted.depth - 1 + deepest as u32;
+        }
+        _ => (),
     }
     if FAULT == TWELVE_FIRST && out.len() < made.length {
         return refused(BUFFER_SHORT, made.length);
@@ -582,18 +586,18 @@ pub fn join<const FAULT: u8>(
         return refused(SHEET_BROKEN, 0);
     }
     if FAULT == SECOND_FIRST {
-        checked(second, SECOND_BROKEN, |_| ())?;
+        puts_of(second, SECOND_BROKEN)?;
     }
-    checked(first, SHEET_BROKEN, |_| ())?;
+    if let Err(broken) = check::<0>(first) {
+        return refused(SHEET_BROKEN, broken.place as usize);
+    }
     let second_broken = match FAULT {
         SECOND_AS_13 => SHEET_BROKEN,
         _ => SECOND_BROKEN,
     };
-    let mut puts = Puts::none(second);
-    checked(second, second_broken, |entry| puts.add(entry))?;
+    let mut puts = puts_of(second, second_broken)?;
     if FAULT == FILLED_BY_ITSELF {
-        puts = Puts::none(first);
-        checked(first, SHEET_BROKEN, |entry| puts.add(entry))?;
+        puts = puts_of(first, SHEET_BROKEN)?;
     }
     if FAULT == COPIES_FIRST {
         return lent::<0>(out, first.len(), |out| out.copy_from_slice(first));
