@@ -294,13 +294,13 @@ pub fn worst_for_join() -> Vec<Worst> {
     inputs
 }
 
-/// What a board's whole job takes beside the stack: the buffers that it lends, at their largest.
+/// What a board has for its whole job, and the longest sheet and shape that it can be lent.
 pub const BOARD: usize = 65_536;
-const SHEET: usize = 16_516;
-const SHAPE: usize = 2048;
+pub const SHEET: usize = 16_516;
+pub const SHAPE: usize = 2048;
 
-/// Board A fills twice: a template, the workshop's sheet and the answer, the site's sheet and the answer.
+/// Board A fills twice: a template, the workshop's sheet, the answer, the site's sheet, the answer.
 pub const BUFFERS_OF_A: usize = SHAPE + SHEET + SHAPE + SHEET + SHAPE;
 
-/// Board B joins and fills once: both sheets and the joined one, a template and the answer.
+/// Board B joins and then fills once: both sheets and the joined one, a template, the answer.
 pub const BUFFERS_OF_B: usize = SHEET + SHEET + SHEET + SHAPE + SHAPE;

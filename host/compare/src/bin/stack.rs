@@ -1,15 +1,18 @@
-//! The peak stack of each call on the stored worst inputs; fails if one takes more than it may.
+//! The peak stack of each call on the stored worst inputs; fails if one takes more than it may, or if
+//! a board's whole job does.
 
 use compare::stack::{
-    peak, worst_for_parts, worst_for_read, worst_for_sheet, worst_ks, MOST_FOR_ANOTHER,
-    MOST_FOR_READ,
+    peak, worst_for_fill, worst_for_join, worst_for_parts, worst_for_read, worst_for_sheet,
+    worst_ks, Worst, BOARD, BUFFERS_OF_A, BUFFERS_OF_B, MOST_FOR_ANOTHER, MOST_FOR_READ, SHEET,
 };
-use compare::{child, name, read, sheet, Outcome, Parts};
+use compare::{child, fill, join, name, read, sheet, Lends, Outcome, Parts};
 use std::hint::black_box;
 use std::process::ExitCode;
+use std::sync::Mutex;
 
 /// A call that is measured.
 type Call = fn(&[u8], u64);
+type LentCall = fn(&[u8], &[u8], &mut [u8]);
 
 /// What passed and failed.
 #[derive(Default)]
@@ -25,11 +28,37 @@ impl Count {
         let within = (1..=most).contains(&taken);
         let word = if within { "" } else { ", OVER" };
         println!("{call:<5} {taken:>6} bytes{word}  {input} ({outcome})");
-        match within {
+        self.add(within);
+    }
+
+    /// What a board's whole job takes: the buffers that it lends, and the stack of one call at a time.
+    fn board(&mut self, board: &str, buffers: usize, stack: usize) {
+        let all = buffers + stack;
+        let word = if all <= BOARD { "" } else { ", OVER" };
+        println!("{board}: {buffers} bytes lent and {stack} of stack are {all} of {BOARD}{word}");
+        self.add(all <= BOARD);
+    }
+
+    fn add(&mut self, passed: bool) {
+        match passed {
             true => self.passed += 1,
             false => self.failed += 1,
         }
     }
+}
+
+/// The most that `fill` or `join` takes, with a buffer that no answer is longer than.
+fn lent(name: &str, proved: Lends, call: LentCall, worst: Vec<Worst>, count: &mut Count) -> usize {
+    let mut most = 0;
+    let mut out = vec![0; SHEET];
+    for (input, first, second) in worst {
+        let outcome = proved(&first, &second, &mut out);
+        let buffer = Mutex::new(&mut out);
+        let taken = peak(|| call(&first, &second, &mut buffer.lock().unwrap()));
+        count.of(name, taken, MOST_FOR_ANOTHER, &input, outcome);
+        most = most.max(taken);
+    }
+    most
 }
 
 fn main() -> ExitCode {
@@ -67,6 +96,17 @@ fn main() -> ExitCode {
         let outcome = sheet::proved(&bytes);
         count.of("sheet", taken, MOST_FOR_ANOTHER, &input, outcome);
     }
+    let of_fill: LentCall = |template, sheet, out| {
+        let _ = black_box(shiulbart::fill(black_box(template), sheet, out));
+    };
+    let of_join: LentCall = |first, second, out| {
+        let _ = black_box(shiulbart::join(black_box(first), second, out));
+    };
+    let of_fill = lent("fill", fill::proved, of_fill, worst_for_fill(), &mut count);
+    let of_join = lent("join", join::proved, of_join, worst_for_join(), &mut count);
+    count.board("board A, which fills twice", BUFFERS_OF_A, of_fill);
+    let most = of_fill.max(of_join);
+    count.board("board B, which joins and fills", BUFFERS_OF_B, most);
     println!("{} passed, {} failed", count.passed, count.failed);
     match count.failed {
         0 => ExitCode::SUCCESS,
