@@ -3,11 +3,16 @@
 
 use compare::cases::sheets::{equal, symbol_of, Sheet};
 use compare::cases::{function, leb128, long, nested, record, symbol, typical};
+use compare::question::{Pair, Question};
 use compare::random::Random;
-use compare::stack::{peak, worst_for_parts, worst_for_read, worst_for_sheet, worst_ks};
-use compare::{child, fast, name, read, sheet, Parts};
+use compare::stack::{
+    peak, worst_for_fill, worst_for_join, worst_for_parts, worst_for_read, worst_for_sheet,
+    worst_ks, Worst, SHEET,
+};
+use compare::{child, fast, fill, join, name, read, sheet, Parts};
 use std::fmt::Display;
 use std::hint::black_box;
+use std::sync::Mutex;
 use std::time::Instant;
 
 /// Rounds of a case. The least time of each program counts, so that what else the machine does
@@ -17,19 +22,39 @@ const ROUNDS: usize = 400;
 const ROUND_BYTES: usize = 100_000;
 const ROUND_TIMES: usize = 2000;
 
-/// Inputs that are read one after the other, or asked for their part k.
+/// What a call is given: bytes and k where it asks for a part, or two inputs.
+struct Input {
+    first: Vec<u8>,
+    second: Vec<u8>,
+    k: u64,
+}
+
+impl Input {
+    fn bytes(&self) -> usize {
+        self.first.len() + self.second.len()
+    }
+}
+
+/// Inputs that are given one after the other.
 struct Case {
     name: String,
-    inputs: Vec<Vec<u8>>,
-    k: u64,
+    inputs: Vec<Input>,
 }
 
 /// The bytes and part k of one input.
 fn one(name: &str, bytes: &[u8], k: u64) -> Case {
+    many(name, vec![bytes.to_vec()], k)
+}
+
+/// Two inputs.
+fn two(name: &str, first: &[u8], second: &[u8]) -> Case {
     Case {
         name: name.to_string(),
-        inputs: vec![bytes.to_vec()],
-        k,
+        inputs: vec![Input {
+            first: first.to_vec(),
+            second: second.to_vec(),
+            k: 0,
+        }],
     }
 }
 
@@ -41,8 +66,15 @@ fn three(name: &str, bytes: &[u8], parts: u64) -> impl Iterator<Item = Case> {
 }
 
 fn many(name: &str, inputs: Vec<Vec<u8>>, k: u64) -> Case {
-    let name = name.to_string();
-    Case { name, inputs, k }
+    let input = |first| Input {
+        first,
+        second: Vec::new(),
+        k,
+    };
+    Case {
+        name: name.to_string(),
+        inputs: inputs.into_iter().map(input).collect(),
+    }
 }
 
 /// `a` Int, `b` Array of Bool.
@@ -236,65 +268,274 @@ fn cases_for_sheet() -> Vec<Case> {
     ]
 }
 
-/// What is measured: a call on bytes, and k where it has one. None is inlined into the measurement.
-type Program = fn(&[u8], u64) -> bool;
+/// The sheet that has these encodings for the blanks from here on.
+fn sheet_from(blank: u16, encodings: &[Vec<u8>]) -> Vec<u8> {
+    Sheet::of((blank..).zip(encodings.iter().map(|own| &own[..]))).bytes()
+}
+
+fn cases_for_fill() -> Vec<Case> {
+    let int = equal(1, &[0x20]);
+    let ints = |count| equal(count, &[0x20]);
+    let blanks: Vec<u8> = (0..2040).map(|i| i as u8 % 32).collect();
+    let wide = function(2040, &blanks, &[0x00]);
+    let arrays = function(500, &[0x40, 1, 0, 0].repeat(500), &[0x20]);
+    let long_blanks = function(400, &[0x45, 2, 0, 40, 0].repeat(400), &[0x20]);
+    let few = function(40, &[0x00; 40], &[0x20]);
+    let round = |inner: &[u8]| record(1, &[&[5, b'i', b'n', b'n', b'e', b'r'], inner].concat());
+    // a short shape for each of 32 blanks
+    let short: Vec<Vec<u8>> = (0..32)
+        .map(|i| [&[0x20][..], &[0x60], &[0x05], &RECORD_A_B][i % 4].to_vec())
+        .collect();
+    let typical = |(i, template): (usize, Vec<u8>)| Input {
+        first: template,
+        second: sheet_from(0, &short[..1 + i % 32]),
+        k: 0,
+    };
+    vec![
+        two(
+            "short: M12",
+            &[0x41, 2, 0, 0, 1],
+            &sheet_from(0, &[vec![1], vec![0]]),
+        ),
+        two("short: M13", &[0x40, 1, 0, 0], &int),
+        two(
+            "short: a Record, nothing to fill",
+            &RECORD_A_B,
+            &equal(0, &[]),
+        ),
+        Case {
+            name: "typical: 256 different, 1 to 32 entries".to_string(),
+            inputs: different().into_iter().enumerate().map(typical).collect(),
+        },
+        two("wide: 2,040 blanks, empty sheet", &wide, &equal(0, &[])),
+        two("wide: 2,040 blanks, 1 entry", &wide, &ints(1)),
+        two("wide: 2,040 blanks, 4 entries", &wide, &ints(4)),
+        two("wide: 2,040 blanks, 32 entries", &wide, &ints(32)),
+        two("wide: 500 Arrays, filled with Int", &arrays, &int),
+        two(
+            "wide: 500 Arrays, nothing to fill",
+            &arrays,
+            &sheet_from(40, &vec![vec![0x20]; 32]),
+        ),
+        two(
+            "wide: 400 long blanks, 32 entries",
+            &long_blanks,
+            &sheet_from(30, &vec![vec![0x20]; 32]),
+        ),
+        two(
+            "wide: Record of 1,000 fields",
+            &record(1000, &[0x00, 0x01].repeat(1000)),
+            &ints(2),
+        ),
+        two("wide: Record of 200 names", &named(), &ints(32)),
+        two(
+            "long: 40 blanks, each 50 bytes",
+            &few,
+            &equal(1, &symbol_of(50)),
+        ),
+        two(
+            "long: one blank, 2,048 bytes",
+            &[0x00],
+            &equal(1, &symbol_of(2048)),
+        ),
+        two(
+            "deep: 15 Arrays",
+            &nested(15, &[0x00], |inner| long(0x40, inner)),
+            &int,
+        ),
+        two("deep: 15 Records", &nested(15, &[0x00], round), &int),
+        two("deep: 15 levels of 128 blanks", &deep_functions(), &ints(3)),
+        two(
+            "text: Symbol of 2,042 letters",
+            &symbol(&[b'a'; 2042]),
+            &int,
+        ),
+        two(
+            "largest sheet: 32 of 512 bytes",
+            &[0x00],
+            &equal(32, &symbol_of(512)),
+        ),
+        two("refused early: first byte", &[0xFF; 2048], &ints(32)),
+        two(
+            "refused late: sheet, last byte",
+            &arrays,
+            &spoilt(&equal(32, &symbol_of(500))),
+        ),
+        two(
+            "refused late: 15",
+            &nested(15, &[0x00], |inner| function(100, &[0x01; 100], inner)),
+            &equal(2, &[0x60]),
+        ),
+        two("refused late: 16", &arrays, &equal(1, &[0x45, 2, 0, 40, 0])),
+    ]
+}
+
+fn cases_for_join() -> Vec<Case> {
+    let empty = equal(0, &[]);
+    let from = |blank, count: usize, own: &[u8]| sheet_from(blank, &vec![own.to_vec(); count]);
+    let typical: Vec<Vec<u8>> = different()
+        .chunks(16)
+        .map(|some| sheet_from(0, some))
+        .collect();
+    let pairs = typical.chunks(2).map(|pair| Input {
+        first: pair[0].clone(),
+        second: pair[1].clone(),
+        k: 0,
+    });
+    let wide = function(500, &[0x00; 500], &[0x20]);
+    let deep = nested(15, &[0x00], |inner| long(0x40, inner));
+    vec![
+        two("short: empty with empty", &empty, &empty),
+        two("short: M14", &from(0, 1, &[1]), &from(1, 1, &[0x20])),
+        two("short: 32 Ints with empty", &from(0, 32, &[0x20]), &empty),
+        two("short: empty with 32 Ints", &empty, &from(0, 32, &[0x20])),
+        two(
+            "short: 16 and 16 blanks, disjoint",
+            &from(0, 16, &[20]),
+            &from(16, 16, &[0x20]),
+        ),
+        two(
+            "short: 32 and 32 blanks, equal",
+            &from(0, 32, &[20]),
+            &from(0, 32, &[0x20]),
+        ),
+        Case {
+            name: "typical: 8 pairs of 16 different shapes".to_string(),
+            inputs: pairs.collect(),
+        },
+        two(
+            "long: 32 of 500 blanks, empty sheet",
+            &from(0, 32, &wide),
+            &empty,
+        ),
+        two(
+            "long: 32 of 500 blanks, filled",
+            &from(0, 32, &wide),
+            &from(0, 32, &[0x21]),
+        ),
+        two(
+            "long: 32 of 15 Arrays, filled",
+            &from(0, 32, &deep),
+            &from(0, 32, &[0x20]),
+        ),
+        two(
+            "largest: 16 and 16 Symbols of 512",
+            &from(0, 16, &symbol_of(512)),
+            &from(16, 16, &symbol_of(512)),
+        ),
+        two(
+            "largest: 32 and 32 Symbols of 512",
+            &from(0, 32, &symbol_of(512)),
+            &from(0, 32, &symbol_of(512)),
+        ),
+        two(
+            "refused early: first sheet",
+            &[0xFF; 2000],
+            &from(0, 32, &wide),
+        ),
+        two(
+            "refused: 64 entries",
+            &from(0, 32, &[0x20]),
+            &from(32, 32, &[0x20]),
+        ),
+        two(
+            "refused late: second, last byte",
+            &from(0, 16, &wide),
+            &spoilt(&from(0, 16, &wide)),
+        ),
+        two(
+            "refused late: 15 at the last",
+            &from(0, 32, &deep),
+            &from(0, 32, &[0x60]),
+        ),
+        two(
+            "refused late: 17 bytes",
+            &from(0, 16, &symbol_of(1000)),
+            &from(16, 16, &symbol_of(1000)),
+        ),
+    ]
+}
+
+/// What is measured: a call on an input, which is lent a buffer. None is inlined into the measurement.
+type Program = fn(&Input, &mut [u8]) -> bool;
 
 #[inline(never)]
-fn proved_read(bytes: &[u8], _: u64) -> bool {
-    black_box(shiulbart::read(bytes)).is_ok()
+fn proved_read(input: &Input, _: &mut [u8]) -> bool {
+    black_box(shiulbart::read(&input.first)).is_ok()
 }
 
 #[inline(never)]
-fn rust_read(bytes: &[u8], _: u64) -> bool {
-    black_box(fast::read::<0>(bytes)).is_ok()
+fn rust_read(input: &Input, _: &mut [u8]) -> bool {
+    black_box(fast::read::<0>(&input.first)).is_ok()
 }
 
 #[inline(never)]
-fn proved_child(bytes: &[u8], k: u64) -> bool {
-    black_box(shiulbart::child(bytes, k)).is_ok()
+fn proved_child(input: &Input, _: &mut [u8]) -> bool {
+    black_box(shiulbart::child(&input.first, input.k)).is_ok()
 }
 
 #[inline(never)]
-fn rust_child(bytes: &[u8], k: u64) -> bool {
-    black_box(fast::parts::child(bytes, k)).is_ok()
+fn rust_child(input: &Input, _: &mut [u8]) -> bool {
+    black_box(fast::parts::child(&input.first, input.k)).is_ok()
 }
 
 #[inline(never)]
-fn proved_name(bytes: &[u8], k: u64) -> bool {
-    black_box(shiulbart::name(bytes, k)).is_ok()
+fn proved_name(input: &Input, _: &mut [u8]) -> bool {
+    black_box(shiulbart::name(&input.first, input.k)).is_ok()
 }
 
 #[inline(never)]
-fn rust_name(bytes: &[u8], k: u64) -> bool {
-    black_box(fast::parts::name(bytes, k)).is_ok()
+fn rust_name(input: &Input, _: &mut [u8]) -> bool {
+    black_box(fast::parts::name(&input.first, input.k)).is_ok()
 }
 
 #[inline(never)]
-fn proved_sheet(bytes: &[u8], _: u64) -> bool {
-    black_box(shiulbart::sheet(bytes)).is_ok()
+fn proved_sheet(input: &Input, _: &mut [u8]) -> bool {
+    black_box(shiulbart::sheet(&input.first)).is_ok()
 }
 
 #[inline(never)]
-fn rust_sheet(bytes: &[u8], _: u64) -> bool {
-    black_box(fast::sheet::check::<0>(bytes)).is_ok()
+fn rust_sheet(input: &Input, _: &mut [u8]) -> bool {
+    black_box(fast::sheet::check::<0>(&input.first)).is_ok()
 }
 
 #[inline(never)]
-fn std_utf8(bytes: &[u8], _: u64) -> bool {
-    black_box(std::str::from_utf8(bytes)).is_ok()
+fn proved_fill(input: &Input, out: &mut [u8]) -> bool {
+    black_box(shiulbart::fill(&input.first, &input.second, out)).is_ok()
+}
+
+#[inline(never)]
+fn rust_fill(input: &Input, out: &mut [u8]) -> bool {
+    black_box(fast::fill::fill::<0>(&input.first, &input.second, out)).is_ok()
+}
+
+#[inline(never)]
+fn proved_join(input: &Input, out: &mut [u8]) -> bool {
+    black_box(shiulbart::join(&input.first, &input.second, out)).is_ok()
+}
+
+#[inline(never)]
+fn rust_join(input: &Input, out: &mut [u8]) -> bool {
+    black_box(fast::fill::join::<0>(&input.first, &input.second, out)).is_ok()
+}
+
+#[inline(never)]
+fn std_utf8(input: &Input, _: &mut [u8]) -> bool {
+    black_box(std::str::from_utf8(&input.first)).is_ok()
 }
 
 /// The least nanoseconds for all inputs, over many rounds, of programs that take turns.
-fn least(programs: &[Program], inputs: &[Vec<u8>], k: u64) -> Vec<f64> {
-    let bytes: usize = inputs.iter().map(Vec::len).sum();
+fn least(programs: &[Program], inputs: &[Input]) -> Vec<f64> {
+    let bytes: usize = inputs.iter().map(Input::bytes).sum();
     let times = (ROUND_BYTES / bytes).clamp(1, ROUND_TIMES);
+    let mut out = vec![0; SHEET];
     let mut least = vec![f64::INFINITY; programs.len()];
     for _ in 0..ROUNDS {
         for (program, least) in programs.iter().zip(&mut least) {
             let start = Instant::now();
             for _ in 0..times {
-                for bytes in inputs {
-                    black_box(program(black_box(bytes), black_box(k)));
+                for input in inputs {
+                    black_box(program(black_box(input), black_box(&mut out)));
                 }
             }
             let taken = start.elapsed().as_nanos() as f64 / times as f64;
@@ -305,17 +546,17 @@ fn least(programs: &[Program], inputs: &[Vec<u8>], k: u64) -> Vec<f64> {
 }
 
 /// A table of a call's times, after a look that the programs agree.
-fn times(call: &str, programs: [Program; 2], cases: Vec<Case>, agree: impl Fn(&[u8], u64) -> bool) {
+fn times(call: &str, programs: [Program; 2], cases: Vec<Case>, agree: impl Fn(&Input) -> bool) {
     println!(
         "\n| `{call}` | bytes | proved: ns a call | a byte | Rust: ns a call | a byte | ratio |"
     );
     println!("|---|---:|---:|---:|---:|---:|---:|");
     for case in cases {
-        for bytes in &case.inputs {
-            assert!(agree(bytes, case.k), "{call}: {}", case.name);
+        for input in &case.inputs {
+            assert!(agree(input), "{call}: {}", case.name);
         }
-        let bytes: usize = case.inputs.iter().map(Vec::len).sum();
-        let taken = least(&programs, &case.inputs, case.k);
+        let bytes: usize = case.inputs.iter().map(Input::bytes).sum();
+        let taken = least(&programs, &case.inputs);
         let each = taken.iter().map(|ns| {
             let (call, byte) = (ns / case.inputs.len() as f64, ns / bytes as f64);
             format!("{call:.1} | {byte:.3}")
@@ -330,24 +571,49 @@ fn times(call: &str, programs: [Program; 2], cases: Vec<Case>, agree: impl Fn(&[
     }
 }
 
-/// A table of the peak stack of a call on its worst inputs.
-fn stack(call: &str, worst: Vec<(impl Display, Vec<u8>)>, programs: [Program; 2]) {
+/// The head of a table of the peak stack of a call.
+fn stack_head(call: &str) {
     println!("\n| peak stack of `{call}` | proved, bytes | Rust, bytes |");
     println!("|---|---:|---:|");
+}
+
+/// The peak stack of both programs on an input.
+fn stacks(programs: [Program; 2], first: &[u8], second: &[u8], k: u64) -> [usize; 2] {
+    let (first, second) = (first.to_vec(), second.to_vec());
+    let input = Input { first, second, k };
+    let out = Mutex::new(vec![0; SHEET]);
+    programs.map(|program| peak(|| _ = program(&input, &mut out.lock().unwrap())))
+}
+
+/// A table of the peak stack of a call on its worst inputs.
+fn stack(call: &str, worst: Vec<(impl Display, Vec<u8>)>, programs: [Program; 2]) {
+    stack_head(call);
     for (name, bytes) in worst {
-        let [a, b] = programs.map(|program| peak(|| _ = program(&bytes, 0)));
+        let [a, b] = stacks(programs, &bytes, &[], 0);
         println!("| {name} | {a} | {b} |");
     }
 }
 
 /// A table of the peak stack of `child` or `name`: on each input the most of its ks.
 fn stack_of_parts(call: &str, proved: Parts, programs: [Program; 2]) {
-    println!("\n| peak stack of `{call}` | proved, bytes | Rust, bytes |");
-    println!("|---|---:|---:|");
+    stack_head(call);
     for (name, bytes) in worst_for_parts() {
         let ks = worst_ks(proved, &bytes);
-        let most = programs.map(|program| ks.map(|k| peak(|| _ = program(&bytes, k))));
-        let [a, b] = most.map(|peaks| peaks[0].max(peaks[1]));
+        let [[a, b], [c, d]] = ks.map(|k| stacks(programs, &bytes, &[], k));
+        println!("| {name} | {} | {} |", a.max(c), b.max(d));
+    }
+}
+
+/// A table of the peak stack of `fill` or `join`: of its many worst inputs those that take the most.
+fn stack_of_pairs(call: &str, worst: Vec<Worst>, programs: [Program; 2]) {
+    const SHOWN: usize = 12;
+    let taken = worst
+        .into_iter()
+        .map(|(name, first, second)| (stacks(programs, &first, &second, 0), name));
+    let mut taken: Vec<([usize; 2], String)> = taken.collect();
+    taken.sort_by_key(|([proved, _], _)| std::cmp::Reverse(*proved));
+    stack_head(call);
+    for ([a, b], name) in taken.into_iter().take(SHOWN) {
         println!("| {name} | {a} | {b} |");
     }
 }
@@ -394,25 +660,43 @@ fn main() {
         "read",
         [proved_read, rust_read],
         cases_for_read(),
-        |bytes, _| read::proved(bytes) == read::fast::<0>(bytes),
+        |input| read::proved(&input.first) == read::fast::<0>(&input.first),
     );
     times(
         "child",
         [proved_child, rust_child],
         cases_for_child(),
-        |bytes, k| child::proved(bytes, k) == child::fast(bytes, k),
+        |input| child::proved(&input.first, input.k) == child::fast(&input.first, input.k),
     );
     times(
         "name",
         [proved_name, rust_name],
         cases_for_name(),
-        |bytes, k| name::proved(bytes, k) == name::fast(bytes, k),
+        |input| name::proved(&input.first, input.k) == name::fast(&input.first, input.k),
     );
     times(
         "sheet",
         [proved_sheet, rust_sheet],
         cases_for_sheet(),
-        |bytes, _| sheet::proved(bytes) == sheet::fast::<0>(bytes),
+        |input| sheet::proved(&input.first) == sheet::fast::<0>(&input.first),
+    );
+    times(
+        "fill",
+        [proved_fill, rust_fill],
+        cases_for_fill(),
+        |input| {
+            let pair = Pair::new(input.first.clone(), input.second.clone(), fill::whole);
+            pair.ask(fill::proved) == pair.ask(fill::fast::<0>)
+        },
+    );
+    times(
+        "join",
+        [proved_join, rust_join],
+        cases_for_join(),
+        |input| {
+            let pair = Pair::new(input.first.clone(), input.second.clone(), join::whole);
+            pair.ask(join::proved) == pair.ask(join::fast::<0>)
+        },
     );
     println!("\n| the text alone, `std::str::from_utf8` | bytes | ns a byte |");
     println!("|---|---:|---:|");
@@ -421,13 +705,15 @@ fn main() {
         ("1,021 characters of two bytes", "é".repeat(1021)),
         ("510 characters of four bytes", "\u{1F6A1}".repeat(510)),
     ] {
-        let text = text.into_bytes();
+        let case = one(name, text.as_bytes(), 0);
+        let taken = least(&[std_utf8], &case.inputs);
         let bytes = text.len();
-        let taken = least(&[std_utf8], &[text], 0);
         println!("| {name} | {bytes} | {:.3} |", taken[0] / bytes as f64);
     }
     stack("read", worst_for_read(), [proved_read, rust_read]);
     stack_of_parts("child", child::proved, [proved_child, rust_child]);
     stack_of_parts("name", name::proved, [proved_name, rust_name]);
     stack("sheet", worst_for_sheet(), [proved_sheet, rust_sheet]);
+    stack_of_pairs("fill", worst_for_fill(), [proved_fill, rust_fill]);
+    stack_of_pairs("join", worst_for_join(), [proved_join, rust_join]);
 }
