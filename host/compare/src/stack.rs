@@ -15,18 +15,19 @@ const PAINTED: usize = 512 * 1024;
 const THREAD: usize = 4 * PAINTED;
 const PATTERN: u64 = 0xA5C3_5A3C_A5C3_5A3C;
 
-/// The peak stack of a call, in bytes.
-pub fn peak(call: impl Fn() + Sync) -> usize {
-    in_a_thread(&call).saturating_sub(in_a_thread(&|| ()))
+/// The peak stack of a call, in bytes. It is lent a buffer that no answer is longer than.
+pub fn peak(call: impl Fn(&mut [u8]) + Sync) -> usize {
+    in_a_thread(&call).saturating_sub(in_a_thread(&|_| ()))
 }
 
-fn in_a_thread(call: &(dyn Fn() + Sync)) -> usize {
+fn in_a_thread(call: &(dyn Fn(&mut [u8]) + Sync)) -> usize {
     std::thread::scope(|scope| {
         std::thread::Builder::new()
             .stack_size(THREAD)
             .spawn_scoped(scope, || {
-                call(); // what is set up at the first call only is not the call's
-                painted(call)
+                let mut out = vec![0; SHEET];
+                call(&mut out); // what is set up at the first call only is not the call's
+                painted(call, &mut out)
             })
             .expect("a thread")
             .join()
@@ -37,7 +38,7 @@ fn in_a_thread(call: &(dyn Fn() + Sync)) -> usize {
 /// The painting and the search are single instructions, so that they take no stack themselves.
 #[cfg(target_arch = "x86_64")]
 #[inline(never)]
-fn painted(call: &(dyn Fn() + Sync)) -> usize {
+fn painted(call: &(dyn Fn(&mut [u8]) + Sync), out: &mut [u8]) -> usize {
     use std::arch::asm;
     let top: usize;
     let words = PAINTED / 8;
@@ -48,7 +49,7 @@ fn painted(call: &(dyn Fn() + Sync)) -> usize {
         asm!("mov {}, rsp", out(reg) top, options(nomem, nostack, preserves_flags));
         let bottom = (top & !7) - PAINTED;
         asm!("rep stosq", inout("rdi") bottom => _, inout("rcx") words => _, in("rax") PATTERN);
-        call();
+        call(out);
         asm!("repe scasq", inout("rdi") bottom => _, inout("rcx") words => left, in("rax") PATTERN);
     }
     8 * (left + 1) // the first word that lost the pattern, and those above it

@@ -12,7 +12,6 @@ use compare::stack::{
 use compare::{child, fast, fill, join, name, read, sheet, Parts};
 use std::fmt::Display;
 use std::hint::black_box;
-use std::sync::Mutex;
 use std::time::Instant;
 
 /// Rounds of a case. The least time of each program counts, so that what else the machine does
@@ -581,8 +580,7 @@ fn stack_head(call: &str) {
 fn stacks(programs: [Program; 2], first: &[u8], second: &[u8], k: u64) -> [usize; 2] {
     let (first, second) = (first.to_vec(), second.to_vec());
     let input = Input { first, second, k };
-    let out = Mutex::new(vec![0; SHEET]);
-    programs.map(|program| peak(|| _ = program(&input, &mut out.lock().unwrap())))
+    programs.map(|program| peak(|out| _ = program(&input, out)))
 }
 
 /// A table of the peak stack of a call on its worst inputs.

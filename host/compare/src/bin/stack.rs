@@ -8,7 +8,6 @@ use compare::stack::{
 use compare::{child, fill, join, name, read, sheet, Lends, Outcome, Parts};
 use std::hint::black_box;
 use std::process::ExitCode;
-use std::sync::Mutex;
 
 /// A call that is measured.
 type Call = fn(&[u8], u64);
@@ -47,14 +46,13 @@ impl Count {
     }
 }
 
-/// The most that `fill` or `join` takes, with a buffer that no answer is longer than.
+/// The most that `fill` or `join` takes.
 fn lent(name: &str, proved: Lends, call: LentCall, worst: Vec<Worst>, count: &mut Count) -> usize {
     let mut most = 0;
     let mut out = vec![0; SHEET];
     for (input, first, second) in worst {
         let outcome = proved(&first, &second, &mut out);
-        let buffer = Mutex::new(&mut out);
-        let taken = peak(|| call(&first, &second, &mut buffer.lock().unwrap()));
+        let taken = peak(|out| call(&first, &second, out));
         count.of(name, taken, MOST_FOR_ANOTHER, &input, outcome);
         most = most.max(taken);
     }
@@ -64,7 +62,7 @@ fn lent(name: &str, proved: Lends, call: LentCall, worst: Vec<Worst>, count: &mu
 fn main() -> ExitCode {
     let mut count = Count::default();
     for (input, bytes) in worst_for_read() {
-        let taken = peak(|| {
+        let taken = peak(|_| {
             let _ = black_box(shiulbart::read(black_box(&bytes)));
         });
         count.of("read", taken, MOST_FOR_READ, input, read::proved(&bytes));
@@ -80,7 +78,7 @@ fn main() -> ExitCode {
     for (name, proved, call) in calls {
         for (input, bytes) in worst_for_parts() {
             for k in worst_ks(proved, &bytes) {
-                let taken = peak(|| call(&bytes, k));
+                let taken = peak(|_| call(&bytes, k));
                 let input = match k {
                     u64::MAX => format!("{input}, k the largest"),
                     _ => format!("{input}, k = {k}"),
@@ -90,7 +88,7 @@ fn main() -> ExitCode {
         }
     }
     for (input, bytes) in worst_for_sheet() {
-        let taken = peak(|| {
+        let taken = peak(|_| {
             let _ = black_box(shiulbart::sheet(black_box(&bytes)));
         });
         let outcome = sheet::proved(&bytes);

@@ -1,7 +1,8 @@
 //! Fill and join written in Rust for speed. Once template and sheet are read, nothing of them can be
 //! wrong, and two more passes go over the template: one measures what is made of it, and one writes
 //! it straight into the lent buffer. In both a shape of one byte is looked up in a table by that
-//! byte, whether it is a blank or not: what stands for it, and how long and deep that is.
+//! byte, whether it is a blank or not: what stands for it, and how long and deep that is. A joined
+//! sheet's entries are not kept but found anew for each pass, but for their lengths.
 //!
 //! `fill::<0>` and `join::<0>` are right. Any other number puts one fault in, as for the reader.
 
@@ -110,11 +111,13 @@ const ITSELF: [Put; 128] = {
     all
 };
 
+const BLANKS: [Put; 32] = *ITSELF.first_chunk().unwrap();
+
 /// What a sheet puts.
 struct Puts<'a> {
     sheet: &'a [u8],
-    /// by first byte
-    short: [Put; 128],
+    /// for blanks under 32
+    short: [Put; 32],
     /// for blanks from 32 up, which rise
     count: usize,
     blanks: [u16; MAX_ENTRIES],
@@ -148,7 +151,7 @@ impl<'a> Puts<'a> {
     fn none(sheet: &'a [u8]) -> Puts<'a> {
         Puts {
             sheet,
-            short: ITSELF,
+            short: BLANKS,
             count: 0,
             blanks: [0; MAX_ENTRIES],
             long: [SIZE_FOLLOWS; MAX_ENTRIES],
@@ -169,6 +172,23 @@ impl<'a> Puts<'a> {
             self.blanks[self.count] = entry.blank as u16;
             self.long[self.count] = put;
             self.count += 1;
+        }
+    }
+
+    /// Reads the sheet, and puts what it has; or a refusal with this number.
+    fn read(&mut self, number: u32) -> Result<(), Refusal> {
+        match check_each::<0>(self.sheet, |entry| self.add(entry)) {
+            Ok(_) => Ok(()),
+            Err(broken) => refused(number, broken.place as usize),
+        }
+    }
+
+    /// What stands for the shape at a place, if it is of one byte.
+    #[inline(always)]
+    fn put(&self, bytes: &[u8], at: usize) -> Put {
+        match bytes[at] {
+            blank @ 0..=31 => self.short[blank as usize],
+            first => ITSELF[(first & 127) as usize],
         }
     }
 
@@ -195,7 +215,7 @@ impl<'a> Puts<'a> {
 
     #[inline(always)]
     fn measure<const FAULT: u8>(&self, bytes: &[u8], at: usize) -> Made {
-        match self.short[(bytes[at] & 127) as usize] {
+        match self.put(bytes, at) {
             Put { length: 0, .. } => self.measure_long::<FAULT>(bytes, at),
             put => self.measure_put::<FAULT>(put, at + 1),
         }
@@ -297,7 +317,7 @@ impl<'a> Puts<'a> {
         out: &mut [u8],
         to: usize,
     ) -> (usize, usize) {
-        match self.short[(bytes[at] & 127) as usize] {
+        match self.put(bytes, at) {
             Put { length: 0, .. } => self.write_long::<FAULT>(bytes, at, out, to),
             put => (at + 1, self.write_put::<FAULT>(put, out, to)),
         }
@@ -321,7 +341,7 @@ impl<'a> Puts<'a> {
     /// for a shape with a list, its kind.
     #[inline(always)]
     fn first<const FAULT: u8>(&self, bytes: &[u8], at: usize) -> (u8, usize) {
-        let (put, next) = match self.short[(bytes[at] & 127) as usize] {
+        let (put, next) = match self.put(bytes, at) {
             Put { length: 0, .. } if bytes[at] != VARIABLE => return (bytes[at], at),
             Put { length: 0, .. } => match self.named::<FAULT>(bytes, at) {
                 Some(put) => (put, at + 5),
@@ -457,20 +477,11 @@ fn lent<const FAULT: u8>(
     Ok(needed)
 }
 
-/// What a sheet puts, or a refusal with this number. (No part of `fill` and `join`, so that there is
-/// one for all faults.)
-fn puts_of(sheet: &[u8], number: u32) -> Result<Puts<'_>, Refusal> {
-    let mut puts = Puts::none(sheet);
-    match check_each::<0>(sheet, |entry| puts.add(entry)) {
-        Ok(_) => Ok(puts),
-        Err(broken) => refused(number, broken.place as usize),
-    }
-}
-
 /// Length and depth of what is made of a template, if it and the sheet are good.
 pub fn measured(template: &[u8], sheet: &[u8]) -> Option<(usize, u32)> {
     read::<0>(template).ok()?;
-    let puts = puts_of(sheet, SHEET_BROKEN).ok()?;
+    let mut puts = Puts::none(sheet);
+    puts.read(SHEET_BROKEN).ok()?;
     let made = puts.measure::<0>(template, 0);
     Some((made.length, made.depth))
 }
@@ -485,10 +496,11 @@ pub fn fill<const FAULT: u8>(
         return refused(SHEET_BROKEN, 0);
     }
     if FAULT == SHEET_FIRST {
-        puts_of(sheet, SHEET_BROKEN)?;
+        Puts::none(sheet).read(SHEET_BROKEN)?;
     }
     let accepted = read::<0>(template)?;
-    let mut puts = puts_of(sheet, SHEET_BROKEN)?;
+    let mut puts = Puts::none(sheet);
+    puts.read(SHEET_BROKEN)?;
     let mut made = puts.measure::<FAULT>(template, 0);
     match FAULT {
         COPIES_TEMPLATE => {
@@ -505,7 +517,7 @@ pub fn fill<const FAULT: u8>(
             fits?;
         }
         DEPTH_OF_ALL => {
-            let puts = puts.short[..32].iter().chain(&puts.long);
+            let puts = puts.short.iter().chain(&puts.long);
             let deepest = puts.map(|put| put.depth).max().unwrap_or(1);
             made.depth = accepted.depth - 1 + deepest as u32;
         }
@@ -558,23 +570,37 @@ impl<'a> Entries<'a> {
     }
 }
 
-/// An entry of a joined sheet.
-#[derive(Clone, Copy)]
-struct Joined<'a> {
-    blank: usize,
-    /// its shape as it is in the first sheet or in the second
-    own: &'a [u8],
-    /// whether the second fills it, and how long it is then
-    filled: bool,
-    length: usize,
+/// The blanks of two sound sheets, rising, each once.
+struct Merged<'a, const FAULT: u8> {
+    firsts: Entries<'a>,
+    seconds: Entries<'a>,
 }
 
-const NOT_JOINED: Joined = Joined {
-    blank: 0,
-    own: &[],
-    filled: false,
-    length: 0,
-};
+/// An entry of a joined sheet: its shape as it is in the first sheet or in the second, and whether
+/// the second fills it.
+struct Joined<'a> {
+    blank: usize,
+    own: &'a [u8],
+    filled: bool,
+}
+
+impl<'a, const FAULT: u8> Iterator for Merged<'a, FAULT> {
+    type Item = Joined<'a>;
+
+    #[inline(always)]
+    fn next(&mut self) -> Option<Joined<'a>> {
+        let blank = self.firsts.blank().min(self.seconds.blank());
+        if blank == NO_BLANK {
+            return None;
+        }
+        let (own, filled) = match (self.firsts.take(blank), self.seconds.take(blank)) {
+            (Some(_), Some(own)) if FAULT == SECOND_WINS => (own, false),
+            (Some(own), _) => (own, FAULT != NOT_FILLED),
+            (_, own) => (own?, FAULT == SECOND_FILLED),
+        };
+        Some(Joined { blank, own, filled })
+    }
+}
 
 /// Joins two sheets, whatever the bytes are. The answer is how many bytes of the buffer it takes.
 pub fn join<const FAULT: u8>(
@@ -586,7 +612,7 @@ pub fn join<const FAULT: u8>(
         return refused(SHEET_BROKEN, 0);
     }
     if FAULT == SECOND_FIRST {
-        puts_of(second, SECOND_BROKEN)?;
+        Puts::none(second).read(SECOND_BROKEN)?;
     }
     if let Err(broken) = check::<0>(first) {
         return refused(SHEET_BROKEN, broken.place as usize);
@@ -595,40 +621,21 @@ pub fn join<const FAULT: u8>(
         SECOND_AS_13 => SHEET_BROKEN,
         _ => SECOND_BROKEN,
     };
-    let mut puts = puts_of(second, second_broken)?;
+    let mut puts = Puts::none(second);
+    puts.read(second_broken)?;
     if FAULT == FILLED_BY_ITSELF {
-        puts = puts_of(first, SHEET_BROKEN)?;
+        puts = Puts::none(first);
+        puts.read(SHEET_BROKEN)?;
     }
     if FAULT == COPIES_FIRST {
         return lent::<0>(out, first.len(), |out| out.copy_from_slice(first));
     }
 
-    // the blanks of both, rising
-    let mut joined = [NOT_JOINED; 2 * MAX_ENTRIES];
-    let mut count = 0;
-    let (mut firsts, mut seconds) = (Entries::of(first), Entries::of(second));
-    loop {
-        let blank = firsts.blank().min(seconds.blank());
-        if blank == NO_BLANK {
-            break;
-        }
-        let (own, filled) = match (firsts.take(blank), seconds.take(blank)) {
-            (Some(_), Some(own)) if FAULT == SECOND_WINS => (own, false),
-            (Some(own), _) => (own, FAULT != NOT_FILLED),
-            (_, own) => (own.unwrap_or(&[]), FAULT == SECOND_FILLED),
-        };
-        joined[count] = Joined {
-            blank,
-            own,
-            filled,
-            length: own.len(),
-        };
-        count += 1;
-    }
-    let joined = &mut joined[..count];
-    if FAULT == NOT_RISING {
-        joined.sort_by_key(|entry| !entry.filled);
-    }
+    let joined = || Merged::<FAULT> {
+        firsts: Entries::of(first),
+        seconds: Entries::of(second),
+    };
+    let count = joined().count();
     let counted = match FAULT {
         BOTH_COUNTED => first[0] as usize + second[0] as usize,
         _ => count,
@@ -640,7 +647,7 @@ pub fn join<const FAULT: u8>(
 
     if FAULT == FIFTEENS_FIRST || FAULT == BYTES_FIRST {
         let mut bytes = 0;
-        for entry in joined.iter() {
+        for entry in joined() {
             let made = match entry.filled {
                 true => puts.measure::<0>(entry.own, 0),
                 false => Puts::none(&[]).measure::<0>(entry.own, 0),
@@ -654,8 +661,12 @@ pub fn join<const FAULT: u8>(
             return refused(JOINED_TOO_LARGE, bytes);
         }
     }
+    let mut lengths = [0u16; 2 * MAX_ENTRIES];
     let mut bytes = 0;
-    for (index, entry) in joined.iter_mut().enumerate() {
+    let mut unfilled = 0;
+    for (index, entry) in joined().enumerate() {
+        let mut length = entry.own.len();
+        unfilled += length;
         if entry.filled {
             let made = puts.measure::<FAULT>(entry.own, 0);
             let place = match FAULT {
@@ -664,44 +675,54 @@ pub fn join<const FAULT: u8>(
                 _ => entry.blank,
             };
             within::<FAULT>(&made, place)?;
-            entry.length = made.length;
+            length = made.length;
         }
-        bytes += match FAULT {
-            BYTES_UNFILLED => entry.own.len(),
-            _ => entry.length,
-        };
+        lengths[index] = length as u16;
+        bytes += length;
     }
     if too_many {
         return refused(JOINED_TOO_LARGE, counted);
     }
-    if bytes > MAX_ENCODINGS + (FAULT == MORE_BYTES) as usize {
-        let head = if FAULT == WHOLE_SHEET {
-            4 + 4 * count
-        } else {
-            0
+    let counted = match FAULT {
+        BYTES_UNFILLED => unfilled,
+        _ => bytes,
+    };
+    if counted > MAX_ENCODINGS + (FAULT == MORE_BYTES) as usize {
+        let place = match FAULT {
+            WHOLE_SHEET => 4 + 4 * count + bytes,
+            _ => counted,
         };
-        return refused(JOINED_TOO_LARGE, head + bytes);
+        return refused(JOINED_TOO_LARGE, place);
     }
 
-    if FAULT == BYTES_UNFILLED {
-        bytes = joined.iter().map(|entry| entry.length).sum();
-    }
     lent::<FAULT>(out, 4 + 4 * count + bytes, |out| {
-        let mut to = copy(&(count as u16).to_le_bytes(), out, 0);
-        for entry in joined.iter() {
+        out[..2].copy_from_slice(&(count as u16).to_le_bytes());
+        let (head, encodings) = out[2..].split_at_mut(4 * count);
+        encodings[..2].copy_from_slice(&(bytes as u16).to_le_bytes());
+        let mut heads = head.chunks_exact_mut(4);
+        let mut to = 2;
+        let mut write = |index: usize, entry: Joined| {
             let length = match FAULT {
-                OLD_LENGTHS => entry.own.len(),
-                _ => entry.length,
+                OLD_LENGTHS => entry.own.len() as u16,
+                _ => lengths[index],
             };
-            to = copy(&(entry.blank as u16).to_le_bytes(), out, to);
-            to = copy(&(length as u16).to_le_bytes(), out, to);
-        }
-        to = copy(&(bytes as u16).to_le_bytes(), out, to);
-        for entry in joined.iter() {
+            if let Some(head) = heads.next() {
+                head[..2].copy_from_slice(&(entry.blank as u16).to_le_bytes());
+                head[2..].copy_from_slice(&length.to_le_bytes());
+            }
             to = match entry.filled {
-                true => puts.write::<FAULT>(entry.own, 0, out, to).1,
-                false => copy(entry.own, out, to),
+                true => puts.write::<FAULT>(entry.own, 0, encodings, to).1,
+                false => copy(entry.own, encodings, to),
             };
+        };
+        for (index, entry) in joined().enumerate() {
+            if FAULT != NOT_RISING || entry.filled {
+                write(index, entry);
+            }
+        }
+        if FAULT == NOT_RISING {
+            let own = joined().enumerate().filter(|(_, entry)| !entry.filled);
+            own.for_each(|(index, entry)| write(index, entry));
         }
     })
 }
