@@ -1,8 +1,10 @@
-/* Calls the archive from C through include/shiulbart.h: M1 to M11 of the bench card, children and
-   names, and sheets. tests/host.sh compiles, links and runs it. Its last line is 'N passed, M failed'. */
+/* Calls the archive from C through include/shiulbart.h: M1 to M14 of the bench card, children and
+   names, sheets, and every byte of the buffers that fill and join are lent. tests/host.sh compiles,
+   links and runs it. Its last line is 'N passed, M failed'. */
 #include "shiulbart.h"
 
 #include <stdio.h>
+#include <string.h>
 
 /* the boundary's layout: four numbers of four bytes, nothing between them */
 typedef char four_numbers[sizeof(shiulbart_answer) == 16 ? 1 : -1];
@@ -50,6 +52,28 @@ static void refused(const char *name, const uint8_t *bytes, size_t length, uint3
     expect(name, shiulbart_read(bytes, length), refusal(number, place));
 }
 
+typedef shiulbart_answer lent_call(const uint8_t *, size_t, const uint8_t *, size_t, uint8_t *, size_t);
+
+/* Calls fill or join with a buffer that differs by position, and looks at every byte of it: the first
+   `length` must be `made`, and the others, also those behind the buffer, as they were. */
+static void lent(const char *name, lent_call *call, const uint8_t *first, size_t first_length,
+    const uint8_t *second, size_t second_length, size_t room, shiulbart_answer answer, const uint8_t *made)
+{
+    uint8_t out[40], before[40];
+    size_t i;
+    for (i = 0; i < sizeof out; i++)
+        out[i] = before[i] = (uint8_t)(7 * i + 3);
+    if (answer.length > 0)
+        memcpy(before, made, answer.length);
+    expect(name, call(first, first_length, second, second_length, out, room), answer);
+    if (memcmp(out, before, sizeof out) == 0) {
+        passed++;
+    } else {
+        failed++;
+        printf("FAILED %s: the buffer is not as it should be\n", name);
+    }
+}
+
 int main(void)
 {
     static const uint8_t m1[] = {0x20};
@@ -70,6 +94,14 @@ int main(void)
     static const uint8_t empty_sheet[] = {0x00, 0x00, 0x00, 0x00};
     static const uint8_t equal_numbers[]
         = {0x02, 0x00, 0x01, 0x00, 0x01, 0x00, 0x01, 0x00, 0x01, 0x00, 0x02, 0x00, 0x20, 0x20};
+    static const uint8_t m12[] = {0x41, 0x02, 0x00, 0x00, 0x01};
+    static const uint8_t m12_sheet[]
+        = {0x02, 0x00, 0x00, 0x00, 0x01, 0x00, 0x01, 0x00, 0x01, 0x00, 0x02, 0x00, 0x01, 0x00};
+    static const uint8_t m12_made[] = {0x41, 0x02, 0x00, 0x01, 0x00};
+    static const uint8_t m13[] = {0x40, 0x01, 0x00, 0x00};
+    static const uint8_t m13_made[] = {0x60};
+    static const uint8_t m14_first[] = {0x01, 0x00, 0x00, 0x00, 0x01, 0x00, 0x01, 0x00, 0x01};
+    static const uint8_t m14_second[] = {0x01, 0x00, 0x01, 0x00, 0x01, 0x00, 0x01, 0x00, 0x20};
     const uint64_t two_to_32 = (uint64_t)1 << 32;
     const uint32_t none = SHIULBART_NO_SUCH_PART;
     const uint32_t broken = SHIULBART_SHEET_BROKEN;
@@ -127,6 +159,40 @@ int main(void)
         refusal(broken, 1));
     expect("M13's sheet, cut", shiulbart_sheet(m13_sheet, sizeof m13_sheet - 1), refusal(broken, 6));
     expect("the empty sheet and more", shiulbart_sheet(too_long, sizeof too_long), refusal(broken, 4));
+
+    lent("M12", shiulbart_fill, m12, sizeof m12, m12_sheet, sizeof m12_sheet, 5, answered(0, 5, 0), m12_made);
+    lent("M12, more room", shiulbart_fill, m12, sizeof m12, m12_sheet, sizeof m12_sheet, 40,
+        answered(0, 5, 0), m12_made);
+    lent("M12, a byte short", shiulbart_fill, m12, sizeof m12, m12_sheet, sizeof m12_sheet, 4,
+        refusal(SHIULBART_BUFFER_SHORT, 5), NULL);
+    lent("M13", shiulbart_fill, m13, sizeof m13, m13_sheet, sizeof m13_sheet, 40, answered(0, 1, 0), m13_made);
+    lent("M13, no room", shiulbart_fill, m13, sizeof m13, m13_sheet, sizeof m13_sheet, 0,
+        refusal(SHIULBART_BUFFER_SHORT, 1), NULL);
+    lent("M3 filled", shiulbart_fill, m3, sizeof m3, m13_sheet, sizeof m13_sheet, 40,
+        refusal(SHIULBART_LONG_FORM, 0), NULL);
+    lent("M13 with no sheet", shiulbart_fill, m13, sizeof m13, m13_sheet, 0, 40, refusal(broken, 0), NULL);
+    lent("M13 with a cut sheet", shiulbart_fill, m13, sizeof m13, m13_sheet, sizeof m13_sheet - 1, 40,
+        refusal(broken, 6), NULL);
+    lent("M14", shiulbart_join, m14_first, sizeof m14_first, m14_second, sizeof m14_second, 40,
+        answered(0, 14, 0), m14_sheet);
+    lent("M14, just enough room", shiulbart_join, m14_first, sizeof m14_first, m14_second, sizeof m14_second,
+        14, answered(0, 14, 0), m14_sheet);
+    lent("M14, a byte short", shiulbart_join, m14_first, sizeof m14_first, m14_second, sizeof m14_second, 13,
+        refusal(SHIULBART_BUFFER_SHORT, 14), NULL);
+    lent("M14, the first cut", shiulbart_join, m14_first, sizeof m14_first - 1, m14_second,
+        sizeof m14_second, 40, refusal(broken, 6), NULL);
+    lent("M14, the second cut", shiulbart_join, m14_first, sizeof m14_first, m14_second,
+        sizeof m14_second - 1, 40, refusal(SHIULBART_SECOND_BROKEN, 6), NULL);
+    lent("empty sheets joined", shiulbart_join, empty_sheet, 4, empty_sheet, 4, 40, answered(0, 4, 0),
+        empty_sheet);
+    expect("M13, null for no room", shiulbart_fill(m13, sizeof m13, m13_sheet, sizeof m13_sheet, NULL, 0),
+        refusal(SHIULBART_BUFFER_SHORT, 1));
+    expect("M14, null for no room",
+        shiulbart_join(m14_first, sizeof m14_first, m14_second, sizeof m14_second, NULL, 0),
+        refusal(SHIULBART_BUFFER_SHORT, 14));
+    expect("nothing filled, null pointers", shiulbart_fill(NULL, 0, NULL, 0, NULL, 0),
+        refusal(SHIULBART_CUT_SHORT, 0));
+    expect("nothing joined, null pointers", shiulbart_join(NULL, 0, NULL, 0, NULL, 0), refusal(broken, 0));
 
     printf("%u passed, %u failed\n", passed, failed);
     return failed > 0;

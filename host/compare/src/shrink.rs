@@ -9,6 +9,10 @@ pub fn shrink(input: &[u8], differs: impl Fn(&[u8]) -> bool) -> Vec<u8> {
     let mut bytes = input.to_vec();
     loop {
         let before = bytes.clone();
+        bytes = match inner(&before).find(|inner| differs(inner)) {
+            Some(inner) => inner.to_vec(),
+            None => bytes,
+        };
         simplify(&mut bytes, &differs);
         drop_some(&mut bytes, &differs);
         if bytes == before {
@@ -110,6 +114,15 @@ impl Entry<'_> {
 fn number(bytes: &[u8], place: usize) -> Option<u16> {
     let two = bytes.get(place..place + 2)?;
     Some(u16::from_le_bytes([two[0], two[1]]))
+}
+
+/// What looks like a shape with a size inside another, the last first: it is the innermost.
+fn inner(bytes: &[u8]) -> impl Iterator<Item = &[u8]> {
+    (1..bytes.len()).rev().filter_map(|first| {
+        let stop = first + 3 + number(bytes, first + 1)? as usize;
+        (64..=69).contains(&bytes[first]).then_some(())?;
+        bytes.get(first..stop)
+    })
 }
 
 /// How many bytes are tried at once: the powers of two, so that whole blocks of text can go, and

@@ -2,9 +2,10 @@
 
 use compare::cases::sheets::{equal, symbol_of, Sheet};
 use compare::cases::{function, long, nested, record, symbol};
+use compare::question::{Pair, Question};
 use compare::read::{self, WRONG};
 use compare::shrink::{shrink, shrink_sheet};
-use compare::{child, name, sheet};
+use compare::{child, fill, join, name, sheet, Lends, Whole, WrongLends};
 
 #[test]
 fn each_differs_on_a_small_input() {
@@ -203,4 +204,345 @@ fn a_difference_is_made_small() {
     block[6 + 64] = 0xFF;
     let input = nested(9, &block, |inner| long(0x40, inner));
     assert_eq!(smallest(26, &input).len(), 70);
+}
+
+/// Each wrong model, in its order: two inputs, the length of the lent buffer, what is right, and what
+/// the wrong model says. Short buffers are shown with their bytes.
+fn told_apart_by<const N: usize>(
+    wrong: [WrongLends; N],
+    [proved, fast]: [Lends; 2],
+    whole: Whole,
+    cases: [(Vec<u8>, Vec<u8>, usize, &str, &str); N],
+) {
+    for ((first, second, room, right, said), (fault, model)) in cases.into_iter().zip(wrong) {
+        let mut pair = Pair::new(first, second, whole);
+        pair.rooms = vec![room];
+        assert_eq!(pair.right().to_string(), right, "{fault}");
+        assert_eq!(pair.ask(proved).to_string(), right, "{fault}");
+        assert_eq!(pair.ask(fast).to_string(), right, "{fault}");
+        assert_eq!(pair.ask(model).to_string(), said, "{fault}");
+    }
+}
+
+const INT: &[u8] = &[0x20];
+const EMPTY: [u8; 4] = [0; 4];
+
+fn sheet_of(blanks: &[(u16, &[u8])]) -> Vec<u8> {
+    Sheet::of(blanks.iter().copied()).bytes()
+}
+
+fn arrays(levels: usize, inner: &[u8]) -> Vec<u8> {
+    nested(levels, inner, |inner| long(0x40, inner))
+}
+
+#[test]
+fn each_of_fill_differs_on_a_small_input() {
+    let array = || long(0x40, &[0]);
+    let map = || long(0x41, &[0, 1]);
+    let swap = sheet_of(&[(0, &[1]), (1, &[0])]);
+    let int = || sheet_of(&[(0, INT)]);
+    let forty = long(0x45, &[40, 0]);
+    let ints = sheet_of(&[(0, INT), (1, &[0x21])]);
+    // 2,049 bytes with blank 0 alone; but then blank 1 makes a long Array a packed one
+    let stages = sheet_of(&[(0, &symbol_of(2042)), (1, INT)]);
+    let array_and_blank = long(0x41, &[0x40, 1, 0, 1, 0]);
+    let both = long(0x41, &[&arrays(14, &[0])[..], &[1]].concat());
+    let both_put = sheet_of(&[(0, &[0x60]), (1, &symbol_of(2040))]);
+    let deep_unused = sheet_of(&[(0, INT), (1, &arrays(15, &[0]))]);
+    let long_map = sheet_of(&[(0, &symbol_of(2045)), (1, INT)]);
+    told_apart_by(
+        fill::WRONG,
+        [fill::proved, fill::fast::<0>],
+        fill::whole,
+        [
+            (vec![0x20], EMPTY.to_vec(), 1, "ok 1 0 [20]", "no 13 0 [03]"),
+            (vec![0], int(), 1, "ok 1 0 [20]", "ok 1 0 [00]"),
+            (
+                map(),
+                swap,
+                5,
+                "ok 5 0 [41 02 00 01 00]",
+                "ok 5 0 [41 02 00 00 01]",
+            ),
+            (array(), int(), 1, "ok 1 0 [60]", "no 12 4 [03]"),
+            (map(), ints.clone(), 1, "ok 1 0 [66]", "no 12 5 [03]"),
+            (map(), ints, 1, "ok 1 0 [66]", "ok 1 0 [6A]"),
+            (
+                array(),
+                sheet_of(&[(0, &forty)]),
+                8,
+                "ok 8 0 [40 05 00 45 02 00 28 00]",
+                "ok 8 0 [40 01 00 45 02 00 28 00]",
+            ),
+            (
+                forty.clone(),
+                sheet_of(&[(40, INT)]),
+                1,
+                "ok 1 0 [20]",
+                "no 12 5 [03]",
+            ),
+            (
+                forty.clone(),
+                sheet_of(&[(256 + 40, INT)]),
+                5,
+                "ok 5 0 [45 02 00 28 00]",
+                "ok 1 0 [20 0A 11 18 1F]",
+            ),
+            (
+                forty,
+                sheet_of(&[(41, INT)]),
+                5,
+                "ok 5 0 [45 02 00 28 00]",
+                "ok 1 0 [20 0A 11 18 1F]",
+            ),
+            (
+                function(0, &[], &[0]),
+                int(),
+                5,
+                "ok 5 0 [43 02 00 00 20]",
+                "ok 5 0 [43 02 00 00 00]",
+            ),
+            (array_and_blank, stages, 0, "no 12 2046", "no 16 0"),
+            (array(), deep_unused, 1, "ok 1 0 [60]", "no 15 0 [03]"),
+            (
+                arrays(15, &[0]),
+                sheet_of(&[(0, &[0x60])]),
+                0,
+                "no 15 0",
+                "no 12 46",
+            ),
+            (map(), long_map.clone(), 0, "no 16 0", "no 12 2049"),
+            (both, both_put, 0, "no 15 0", "no 16 0"),
+            (map(), long_map.clone(), 0, "no 16 0", "no 12 2049"),
+            (vec![], vec![], 0, "no 1 0", "no 13 0"),
+            (map(), long_map, 0, "no 16 0", "no 16 2049"),
+            (vec![0], int(), 0, "no 12 1", "no 12 2"),
+            (vec![0], int(), 1, "ok 1 0 [20]", "no 12 1 [03]"),
+            (vec![0], int(), 2, "ok 1 0 [20 0A]", "ok 1 0 [20 00]"),
+            (
+                array(),
+                sheet_of(&[(0, &[1])]),
+                3,
+                "no 12 4 [03 0A 11]",
+                "no 12 4 [40 01 00]",
+            ),
+        ],
+    );
+}
+
+#[test]
+fn each_of_join_differs_on_a_small_input() {
+    let one = |blank: u16, own: &[u8]| sheet_of(&[(blank, own)]);
+    let from = |from: u16, count: u16, own: &[u8]| {
+        Sheet::of((from..from + count).map(|blank| (blank, own))).bytes()
+    };
+    let forty = long(0x45, &[40, 0]);
+    let map = long(0x41, &[8, 9]);
+    let ints = sheet_of(&[(8, INT), (9, &[0x21])]);
+    // blank 9 with blank 8 put in is too deep, too long, or both
+    let (deep, wide) = (arrays(15, &[8]), function(20, &[9; 20], INT));
+    let both = long(0x41, &[&arrays(14, &[8])[..], &wide].concat());
+    let puts = sheet_of(&[(8, &[0x60]), (9, &symbol_of(200))]);
+    let many = [
+        &[(8, &[0x60][..])][..],
+        &(100..131).map(|blank| (blank, INT)).collect::<Vec<_>>(),
+    ]
+    .concat();
+    let long_one = one(3, &symbol_of(2048));
+    let threes = from(10, 8, &[3]);
+    told_apart_by(
+        join::WRONG,
+        [join::proved, join::fast::<0>],
+        join::whole,
+        [
+            (EMPTY.to_vec(), EMPTY.to_vec(), 0, "no 12 4", "no 13 0"),
+            (EMPTY.to_vec(), one(0, INT), 0, "no 12 9", "no 12 4"),
+            (
+                one(3, &[3]),
+                one(3, INT),
+                9,
+                "ok 9 0 [01 00 03 00 01 00 01 00 20]",
+                "ok 9 0 [01 00 03 00 01 00 01 00 03]",
+            ),
+            (
+                EMPTY.to_vec(),
+                one(3, &long(0x40, &[3])),
+                0,
+                "no 12 12",
+                "no 12 15",
+            ),
+            (
+                one(3, &[3]),
+                one(3, INT),
+                9,
+                "ok 9 0 [01 00 03 00 01 00 01 00 20]",
+                "ok 9 0 [01 00 03 00 01 00 01 00 03]",
+            ),
+            (
+                one(3, &[5]),
+                one(3, INT),
+                9,
+                "ok 9 0 [01 00 03 00 01 00 01 00 05]",
+                "ok 9 0 [01 00 03 00 01 00 01 00 20]",
+            ),
+            (
+                one(3, &[3]),
+                one(3, &[0x40, 1, 0, 3]),
+                0,
+                "no 12 12",
+                "no 12 15",
+            ),
+            (
+                one(3, &[0x40, 1, 0, 3]),
+                one(3, INT),
+                0,
+                "no 12 9",
+                "no 12 12",
+            ),
+            (one(8, &map), ints.clone(), 0, "no 12 14", "no 12 18"),
+            (
+                one(8, &map),
+                ints,
+                14,
+                "ok 14 0 [02 00 08 00 01 00 09 00 01 00 02 00 66 21]",
+                "ok 14 0 [02 00 08 00 01 00 09 00 01 00 02 00 6A 21]",
+            ),
+            (
+                one(3, &[0x40, 1, 0, 3]),
+                one(3, &[0x40, 1, 0, 3]),
+                15,
+                "ok 15 0 [01 00 03 00 07 00 07 00 40 04 00 40 01 00 03]",
+                "ok 15 0 [01 00 03 00 07 00 07 00 40 01 00 40 01 00 03]",
+            ),
+            (
+                one(3, &[3]),
+                one(3, &[0x40, 1, 0, 3]),
+                12,
+                "ok 12 0 [01 00 03 00 04 00 04 00 40 01 00 03]",
+                "ok 12 0 [01 00 03 00 01 00 04 00 40 01 00 03]",
+            ),
+            (
+                one(3, &[0x21]),
+                one(2, INT),
+                14,
+                "ok 14 0 [02 00 02 00 01 00 03 00 01 00 02 00 20 21]",
+                "ok 14 0 [02 00 03 00 01 00 02 00 01 00 02 00 21 20]",
+            ),
+            (one(40, &forty), one(40, INT), 0, "no 12 9", "no 12 13"),
+            (
+                one(40, &forty),
+                one(256 + 40, INT),
+                0,
+                "no 12 18",
+                "no 12 14",
+            ),
+            (one(40, &forty), one(41, INT), 0, "no 12 18", "no 12 14"),
+            (one(9, &deep), one(8, &[0x60]), 0, "no 15 9", "no 12 59"),
+            (
+                one(9, &long(0x41, &[3, 3])),
+                one(3, &symbol_of(1023)),
+                0,
+                "no 16 9",
+                "no 12 3084",
+            ),
+            (one(7, &both), puts.clone(), 0, "no 15 7", "no 16 7"),
+            (
+                sheet_of(&[(6, &wide), (7, &deep)]),
+                puts,
+                0,
+                "no 16 6",
+                "no 15 7",
+            ),
+            (one(9, &deep), one(8, &[0x60]), 0, "no 15 9", "no 15 0"),
+            (one(9, &deep), one(8, &[0x60]), 0, "no 15 9", "no 15 1"),
+            (from(0, 32, INT), one(0, INT), 0, "no 12 164", "no 17 33"),
+            (from(0, 32, INT), one(32, INT), 0, "no 17 33", "no 12 169"),
+            (one(9, &deep), sheet_of(&many), 0, "no 17 33", "no 15 9"),
+            (
+                one(7, &wide),
+                sheet_of(&[(9, &symbol_of(2048))]),
+                0,
+                "no 16 7",
+                "no 17 43013",
+            ),
+            (
+                threes.clone(),
+                long_one.clone(),
+                0,
+                "no 17 18432",
+                "no 12 18472",
+            ),
+            (threes, long_one, 0, "no 17 18432", "no 17 18472"),
+            (
+                from(10, 7, &[3]),
+                sheet_of(&[(3, &symbol_of(2048)), (4, INT)]),
+                0,
+                "no 17 16385",
+                "no 12 16425",
+            ),
+            (vec![], vec![0, 0], 0, "no 13 0", "no 14 2"),
+            (EMPTY.to_vec(), vec![0, 0], 0, "no 14 2", "no 13 2"),
+            (
+                EMPTY.to_vec(),
+                EMPTY.to_vec(),
+                3,
+                "no 12 4 [03 0A 11]",
+                "no 12 5 [03 0A 11]",
+            ),
+            (
+                EMPTY.to_vec(),
+                EMPTY.to_vec(),
+                5,
+                "ok 4 0 [00 00 00 00 1F]",
+                "ok 4 0 [00 00 00 00 00]",
+            ),
+            (
+                EMPTY.to_vec(),
+                EMPTY.to_vec(),
+                3,
+                "no 12 4 [03 0A 11]",
+                "no 12 4 [00 00 00]",
+            ),
+        ],
+    );
+}
+
+#[test]
+fn a_difference_in_a_pair_is_made_small() {
+    let smallest = |(_, wrong): WrongLends, whole: Whole, first: &[u8], second: &[u8]| {
+        let differs = |pair: &Pair| pair.ask(wrong) != pair.right();
+        let pair = Pair::new(first.to_vec(), second.to_vec(), whole);
+        assert!(differs(&pair));
+        pair.smallest(whole, &differs)
+    };
+    let find =
+        |all: &[WrongLends], fault: &str| *all.iter().find(|(name, _)| *name == fault).unwrap();
+    // a Record with a Map of two blanks in it, and a sheet that has much more than these
+    let map = long(0x41, &[4, 5]);
+    let fields = [
+        &[1, b'a', 0x20, 5, b'n', b'a', b'm', b'e', b's'],
+        &map[..],
+        &[0, 0x60],
+    ]
+    .concat();
+    let own = |blank| {
+        if blank < 9 {
+            INT.to_vec()
+        } else {
+            symbol_of(300)
+        }
+    };
+    let owns: Vec<Vec<u8>> = (0..20).map(own).collect();
+    let sheet = Sheet::of((0..).zip(owns.iter().map(|own| &own[..]))).bytes();
+    let keeps = find(&fill::WRONG, "keeps the long Map");
+    let small = smallest(keeps, fill::whole, &record(3, &fields), &sheet);
+    assert_eq!((small.first.len(), small.second.len()), (5, 9), "{small}");
+    assert_eq!(small.rooms.len(), 1);
+    let writes = find(&fill::WRONG, "writes one byte more");
+    let small = smallest(writes, fill::whole, &record(3, &fields), &sheet);
+    assert_eq!((small.first.len(), small.second.len()), (1, 4), "{small}");
+    assert_eq!(small.rooms, [2]);
+    let wins = find(&join::WRONG, "takes the second's where both have");
+    let small = smallest(wins, join::whole, &sheet, &equal(12, &symbol_of(100)));
+    assert!(small.first.len() <= 9 && small.second.len() <= 9, "{small}");
 }
