@@ -1,8 +1,7 @@
 //! Fill and join written in Rust for speed. Once template and sheet are read, nothing of them can be
 //! wrong, and two more passes go over the template: one measures what is made of it, and one writes
 //! it straight into the lent buffer. In both a shape of one byte is looked up in a table by that
-//! byte, whether it is a blank or not: what stands for it, and how long and deep that is. A joined
-//! sheet's entries are not kept but found anew for each pass, but for their lengths.
+//! byte, whether it is a blank or not: what stands for it, and how long and deep that is.
 //!
 //! `fill::<0>` and `join::<0>` are right. Any other number puts one fault in, as for the reader.
 
@@ -532,10 +531,10 @@ pub fn fill<const FAULT: u8>(
     })
 }
 
-/// The entries of a sound sheet that are left.
+/// The entries of a sound sheet that are left, and where the next encoding starts.
 struct Entries<'a> {
-    head: &'a [u8],
-    encodings: &'a [u8],
+    left: &'a [u8],
+    start: usize,
 }
 
 /// Larger than every blank's number.
@@ -543,62 +542,88 @@ const NO_BLANK: usize = 65_536;
 
 impl<'a> Entries<'a> {
     fn of(sheet: &'a [u8]) -> Entries<'a> {
-        let (head, rest) = sheet[2..].split_at(4 * sheet[0] as usize);
-        let encodings = &rest[2..];
-        Entries { head, encodings }
+        let entries = 4 * sheet[0] as usize;
+        Entries {
+            left: &sheet[2..2 + entries],
+            start: 4 + entries,
+        }
     }
 
     /// The next blank.
     #[inline(always)]
     fn blank(&self) -> usize {
-        match self.head {
+        match self.left {
             [low, high, ..] => number(*low, *high),
             _ => NO_BLANK,
         }
     }
 
-    /// Takes the next shape, if it is for this blank.
+    /// Takes the next entry: where its encoding starts, and how long it is.
     #[inline(always)]
-    fn take(&mut self, blank: usize) -> Option<&'a [u8]> {
-        if self.blank() != blank {
-            return None;
-        }
-        let (own, after) = self.encodings.split_at(number(self.head[2], self.head[3]));
-        self.head = &self.head[4..];
-        self.encodings = after;
-        Some(own)
+    fn take(&mut self) -> (usize, usize) {
+        let (start, length) = (self.start, number(self.left[2], self.left[3]));
+        self.left = &self.left[4..];
+        self.start += length;
+        (start, length)
     }
 }
 
-/// The blanks of two sound sheets, rising, each once.
-struct Merged<'a, const FAULT: u8> {
-    firsts: Entries<'a>,
-    seconds: Entries<'a>,
+/// An entry of a joined sheet: its shape is in the first sheet or in the second.
+#[derive(Clone, Copy)]
+struct Joined {
+    blank: u16,
+    start: u16,
+    length: u16,
+    /// the length of what is made of it
+    made: u16,
+    of_first: bool,
 }
 
-/// An entry of a joined sheet: its shape as it is in the first sheet or in the second, and whether
-/// the second fills it.
-struct Joined<'a> {
-    blank: usize,
-    own: &'a [u8],
-    filled: bool,
-}
+const NOT_JOINED: Joined = Joined {
+    blank: 0,
+    start: 0,
+    length: 0,
+    made: 0,
+    of_first: false,
+};
 
-impl<'a, const FAULT: u8> Iterator for Merged<'a, FAULT> {
-    type Item = Joined<'a>;
-
-    #[inline(always)]
-    fn next(&mut self) -> Option<Joined<'a>> {
-        let blank = self.firsts.blank().min(self.seconds.blank());
+/// The blanks of two sound sheets, rising, each once. How many there are.
+#[inline(always)]
+fn merge<const FAULT: u8>(
+    first: &[u8],
+    second: &[u8],
+    joined: &mut [Joined; 2 * MAX_ENTRIES],
+) -> usize {
+    let (mut firsts, mut seconds) = (Entries::of(first), Entries::of(second));
+    let mut count = 0;
+    loop {
+        let (a, b) = (firsts.blank(), seconds.blank());
+        let blank = a.min(b);
         if blank == NO_BLANK {
-            return None;
+            return count;
         }
-        let (own, filled) = match (self.firsts.take(blank), self.seconds.take(blank)) {
-            (Some(_), Some(own)) if FAULT == SECOND_WINS => (own, false),
-            (Some(own), _) => (own, FAULT != NOT_FILLED),
-            (_, own) => (own?, FAULT == SECOND_FILLED),
+        let mut of_first = a == blank;
+        let (start, length) = match (of_first, b == blank) {
+            (true, false) => firsts.take(),
+            (false, _) => seconds.take(),
+            (true, true) => {
+                let (of_a, of_b) = (firsts.take(), seconds.take());
+                of_first = FAULT != SECOND_WINS;
+                if of_first {
+                    of_a
+                } else {
+                    of_b
+                }
+            }
         };
-        Some(Joined { blank, own, filled })
+        joined[count] = Joined {
+            blank: blank as u16,
+            start: start as u16,
+            length: length as u16,
+            made: length as u16,
+            of_first,
+        };
+        count += 1;
     }
 }
 
@@ -631,11 +656,21 @@ pub fn join<const FAULT: u8>(
         return lent::<0>(out, first.len(), |out| out.copy_from_slice(first));
     }
 
-    let joined = || Merged::<FAULT> {
-        firsts: Entries::of(first),
-        seconds: Entries::of(second),
+    let mut joined = [NOT_JOINED; 2 * MAX_ENTRIES];
+    let count = merge::<FAULT>(first, second, &mut joined);
+    let joined = &mut joined[..count];
+    if FAULT == NOT_RISING {
+        joined.sort_by_key(|entry| !entry.of_first);
+    }
+    let own = |entry: &Joined| {
+        let sheet = if entry.of_first { first } else { second };
+        &sheet[entry.start as usize..][..entry.length as usize]
     };
-    let count = joined().count();
+    let filled = |entry: &Joined| match FAULT {
+        NOT_FILLED => false,
+        SECOND_FILLED => true,
+        _ => entry.of_first,
+    };
     let counted = match FAULT {
         BOTH_COUNTED => first[0] as usize + second[0] as usize,
         _ => count,
@@ -647,13 +682,13 @@ pub fn join<const FAULT: u8>(
 
     if FAULT == FIFTEENS_FIRST || FAULT == BYTES_FIRST {
         let mut bytes = 0;
-        for entry in joined() {
-            let made = match entry.filled {
-                true => puts.measure::<0>(entry.own, 0),
-                false => Puts::none(&[]).measure::<0>(entry.own, 0),
+        for entry in joined.iter() {
+            let made = match entry.of_first {
+                true => puts.measure::<0>(own(entry), 0),
+                false => Puts::none(&[]).measure::<0>(own(entry), 0),
             };
             if FAULT == FIFTEENS_FIRST && made.depth > MAX_LEVELS {
-                return refused(MADE_TOO_DEEP, entry.blank);
+                return refused(MADE_TOO_DEEP, entry.blank as usize);
             }
             bytes += made.length;
         }
@@ -661,30 +696,25 @@ pub fn join<const FAULT: u8>(
             return refused(JOINED_TOO_LARGE, bytes);
         }
     }
-    let mut lengths = [0u16; 2 * MAX_ENTRIES];
     let mut bytes = 0;
-    let mut unfilled = 0;
-    for (index, entry) in joined().enumerate() {
-        let mut length = entry.own.len();
-        unfilled += length;
-        if entry.filled {
-            let made = puts.measure::<FAULT>(entry.own, 0);
+    for (index, entry) in joined.iter_mut().enumerate() {
+        if filled(entry) {
+            let made = puts.measure::<FAULT>(own(entry), 0);
             let place = match FAULT {
                 PLACE_0 => 0,
                 PLACE_OF_ENTRY => index,
-                _ => entry.blank,
+                _ => entry.blank as usize,
             };
             within::<FAULT>(&made, place)?;
-            length = made.length;
+            entry.made = made.length as u16;
         }
-        lengths[index] = length as u16;
-        bytes += length;
+        bytes += entry.made as usize;
     }
     if too_many {
         return refused(JOINED_TOO_LARGE, counted);
     }
     let counted = match FAULT {
-        BYTES_UNFILLED => unfilled,
+        BYTES_UNFILLED => joined.iter().map(|entry| entry.length as usize).sum(),
         _ => bytes,
     };
     if counted > MAX_ENCODINGS + (FAULT == MORE_BYTES) as usize {
@@ -697,32 +727,21 @@ pub fn join<const FAULT: u8>(
 
     lent::<FAULT>(out, 4 + 4 * count + bytes, |out| {
         out[..2].copy_from_slice(&(count as u16).to_le_bytes());
-        let (head, encodings) = out[2..].split_at_mut(4 * count);
+        let (heads, encodings) = out[2..].split_at_mut(4 * count);
         encodings[..2].copy_from_slice(&(bytes as u16).to_le_bytes());
-        let mut heads = head.chunks_exact_mut(4);
         let mut to = 2;
-        let mut write = |index: usize, entry: Joined| {
+        for (head, entry) in heads.chunks_exact_mut(4).zip(joined.iter()) {
             let length = match FAULT {
-                OLD_LENGTHS => entry.own.len() as u16,
-                _ => lengths[index],
+                OLD_LENGTHS => entry.length,
+                _ => entry.made,
             };
-            if let Some(head) = heads.next() {
-                head[..2].copy_from_slice(&(entry.blank as u16).to_le_bytes());
-                head[2..].copy_from_slice(&length.to_le_bytes());
-            }
-            to = match entry.filled {
-                true => puts.write::<FAULT>(entry.own, 0, encodings, to).1,
-                false => copy(entry.own, encodings, to),
+            head[..2].copy_from_slice(&entry.blank.to_le_bytes());
+            head[2..].copy_from_slice(&length.to_le_bytes());
+            to = match own(entry) {
+                own if filled(entry) => puts.write::<FAULT>(own, 0, encodings, to).1,
+                &[byte] => copy(&[byte], encodings, to),
+                own => copy(own, encodings, to),
             };
-        };
-        for (index, entry) in joined().enumerate() {
-            if FAULT != NOT_RISING || entry.filled {
-                write(index, entry);
-            }
-        }
-        if FAULT == NOT_RISING {
-            let own = joined().enumerate().filter(|(_, entry)| !entry.filled);
-            own.for_each(|(index, entry)| write(index, entry));
         }
     })
 }
