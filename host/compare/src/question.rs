@@ -1,8 +1,9 @@
 //! What a call is asked: bytes, a part of them, or two inputs and lent buffers. Programs are asked,
 //! what they say is compared, and a question on which they differ can be made smaller.
 
-use crate::shrink::{shrink, shrink_sheet};
+use crate::shrink::{drop_entries, shrink, shrink_sheet};
 use crate::{hex, Lends, Outcome, Parts, Whole};
+use std::cell::Cell;
 use std::fmt;
 use std::sync::OnceLock;
 
@@ -120,6 +121,9 @@ fn pattern(length: usize) -> &'static [u8] {
     &PATTERN.get_or_init(|| (0..24_000).map(byte).collect())[..length]
 }
 
+/// How often a pair is tried in another form: two long inputs could take very long.
+const TRIES: usize = 10_000;
+
 impl Pair {
     /// With buffers of each length that matters: with room for the answer and without, and if there
     /// is none, of no byte and of more than any answer takes.
@@ -162,16 +166,19 @@ impl Pair {
 
     /// The smallest found that differs, with the one buffer that shows it.
     pub fn smallest(&self, whole: Whole, differs: &dyn Fn(&Pair) -> bool) -> Pair {
+        let tries = Cell::new(0);
         let telling = |first: &[u8], second: &[u8]| {
-            let pair = Pair::new(first.to_vec(), second.to_vec(), whole);
-            differs(&pair).then_some(pair)
+            tries.set(tries.get() + 1);
+            tries.get() <= TRIES && differs(&Pair::new(first.to_vec(), second.to_vec(), whole))
         };
         let (mut first, mut second) = (self.first.clone(), self.second.clone());
+        // whole entries first, in both, for that is quick (a template has none)
+        second = drop_entries(&second, |second| telling(&first, second));
+        first = drop_entries(&first, |first| telling(first, &second));
         loop {
             let before = first.len() + second.len();
-            second = shrink_sheet(&second, |second| telling(&first, second).is_some());
-            // a template is made smaller as a sheet is that has no entries to drop
-            first = shrink_sheet(&first, |first| telling(first, &second).is_some());
+            first = shrink(&first, |first| telling(first, &second));
+            second = shrink_sheet(&second, |second| telling(&first, second));
             if first.len() + second.len() == before {
                 break;
             }

@@ -23,6 +23,15 @@ pub fn shrink(input: &[u8], differs: impl Fn(&[u8]) -> bool) -> Vec<u8> {
 
 /// As `shrink`, for a sheet: first drops entries with their encodings, and makes encodings shorter.
 pub fn shrink_sheet(input: &[u8], differs: impl Fn(&[u8]) -> bool) -> Vec<u8> {
+    let bytes = drop_entries(input, &differs);
+    match bytes.len() {
+        0..=LONGEST => shrink(&bytes, differs),
+        _ => bytes,
+    }
+}
+
+/// Drops entries of a sheet with their encodings, and makes encodings shorter.
+pub fn drop_entries(input: &[u8], differs: impl Fn(&[u8]) -> bool) -> Vec<u8> {
     let mut bytes = input.to_vec();
     loop {
         let before = bytes.clone();
@@ -36,12 +45,8 @@ pub fn shrink_sheet(input: &[u8], differs: impl Fn(&[u8]) -> bool) -> Vec<u8> {
             }
         }
         if bytes == before {
-            break;
+            return bytes;
         }
-    }
-    match bytes.len() {
-        0..=LONGEST => shrink(&bytes, differs),
-        _ => bytes,
     }
 }
 
@@ -86,6 +91,7 @@ impl Entry<'_> {
         let mut all = vec![self.dropped(), self.with(&[0x20])];
         all.extend([1, half].map(|length| self.with(&own[..length.min(own.len())])));
         all.extend([half, 1].map(|from| self.with(&own[from.min(own.len())..])));
+        all.extend(inner(own).map(|inner| self.with(inner)).take(20));
         all
     }
 
