@@ -9,6 +9,9 @@
 --     fill-fits, join-fits             an answer is no longer than the lent buffer
 --     buffer-front, buffer-rest, buffer-kept, buffer-length     what the lent buffer holds afterwards
 --     fill-needs, join-needs           the length that 12 carries is needed, and enough
+--     by-onto, made-answered, room-answered     what is answered, taken apart
+--     by-read, by-made, room-refused            what is refused with 12, taken apart
+--     made-fits, room-enough, room-lacks        what is answered or refused
 -- Assumes nothing.
 use Prim.Native.Nat.{ℕ, _≤_, _<_, zero-le}
 use mathlib.Core.Path.{_≡_, refl, sym, _∙_}
@@ -46,7 +49,7 @@ same-answer : {v w : List ℕ} → answered v ≡ answered w → v ≡ w
 same-answer h = cc
 
 -- Where an answer follows from what was read, it was read.
-by-onto : {A P : Type 0} {w : List ℕ} (r : Reading A) (f : A → Answer) → onto r f ≡ answered w → ((a : A) (v : List ℕ) → r ≡ got a v → f a ≡ answered w → P) → P
+pub by-onto : {A P : Type 0} {w : List ℕ} (r : Reading A) (f : A → Answer) → onto r f ≡ answered w → ((a : A) (v : List ℕ) → r ≡ got a v → f a ≡ answered w → P) → P
 unfolding onto
 by-onto (got a v) f h k = k a v refl h
 by-onto (bad n p) f h k = absurd (not-answered h)
@@ -57,22 +60,22 @@ unless true n p rest h k = absurd (not-answered h)
 unless false n p rest h k = k refl h
 
 -- What is answered has the room.
-room-answered : (room : ℕ) (v w : List ℕ) → inRoom room v ≡ answered w → (v ≡ w) × (length w ≤ room)
+pub room-answered : (room : ℕ) (v w : List ℕ) → inRoom room v ≡ answered w → (v ≡ w) × (length w ≤ room)
 unfolding inRoom
 room-answered room v w h = unless (ltb room (length v)) _ _ _ h λ p q. let e : v ≡ w = same-answer q in (e, rw e at (ltb-false room (length v) p))
 
 -- What has the room is answered.
-room-enough : (room : ℕ) (w : List ℕ) → length w ≤ room → inRoom room w ≡ answered w
+pub room-enough : (room : ℕ) (w : List ℕ) → length w ≤ room → inRoom room w ≡ answered w
 unfolding inRoom
 room-enough room w h = rw (le-ltb room (length w) h)
 
 -- What has not is refused with 12, and its length is the place.
-room-lacks : (room : ℕ) (w : List ℕ) → room < length w → inRoom room w ≡ refused bufferShort (length w)
+pub room-lacks : (room : ℕ) (w : List ℕ) → room < length w → inRoom room w ≡ refused bufferShort (length w)
 unfolding inRoom
 room-lacks room w h = rw (lt-ltb room (length w) h)
 
 -- A made shape after which something was answered is shallow and short.
-made-answered : {P : Type 0} {w : List ℕ} (p : ℕ) (s : Shape) (a : Answer) → made p s a ≡ answered w → (depth s ≤ maxLevels → length (encode s) ≤ maxBytes → a ≡ answered w → P) → P
+pub made-answered : {P : Type 0} {w : List ℕ} (p : ℕ) (s : Shape) (a : Answer) → made p s a ≡ answered w → (depth s ≤ maxLevels → length (encode s) ≤ maxBytes → a ≡ answered w → P) → P
 unfolding made
 made-answered p s a h k =
     unless (ltb maxLevels (depth s)) _ _ _ h λ q h.
@@ -80,7 +83,7 @@ made-answered p s a h k =
     k (ltb-false _ _ q) (ltb-false _ _ r) h
 
 -- A shallow and short shape is not refused.
-made-fits : (p : ℕ) (s : Shape) (a : Answer) → depth s ≤ maxLevels → length (encode s) ≤ maxBytes → made p s a ≡ a
+pub made-fits : (p : ℕ) (s : Shape) (a : Answer) → depth s ≤ maxLevels → length (encode s) ≤ maxBytes → made p s a ≡ a
 unfolding made
 made-fits p s a d l = rw (le-ltb maxLevels (depth s) d, le-ltb maxBytes (length (encode s)) l)
 
@@ -368,13 +371,13 @@ by-other true m q rest o h k = absurd (o (same-refusal h .0))
 by-other false m q rest o h k = k refl h
 
 -- Where reading is never refused with 12, what follows it was.
-by-read : {A P : Type 0} {n : ℕ} (r : Reading A) (f : A → Answer) → ((m q : ℕ) → r ≡ bad m q → m ≡ bufferShort → ⊥) → onto r f ≡ refused bufferShort n → ((a : A) (v : List ℕ) → r ≡ got a v → f a ≡ refused bufferShort n → P) → P
+pub by-read : {A P : Type 0} {n : ℕ} (r : Reading A) (f : A → Answer) → ((m q : ℕ) → r ≡ bad m q → m ≡ bufferShort → ⊥) → onto r f ≡ refused bufferShort n → ((a : A) (v : List ℕ) → r ≡ got a v → f a ≡ refused bufferShort n → P) → P
 unfolding onto
 by-read (got a v) f o h k = k a v refl h
 by-read (bad m q) f o h k = absurd (o m q refl (same-refusal h .0))
 
 -- Nor is a made shape refused with 12.
-by-made : {P : Type 0} {n : ℕ} (p : ℕ) (s : Shape) (a : Answer) → made p s a ≡ refused bufferShort n → (depth s ≤ maxLevels → length (encode s) ≤ maxBytes → a ≡ refused bufferShort n → P) → P
+pub by-made : {P : Type 0} {n : ℕ} (p : ℕ) (s : Shape) (a : Answer) → made p s a ≡ refused bufferShort n → (depth s ≤ maxLevels → length (encode s) ≤ maxBytes → a ≡ refused bufferShort n → P) → P
 unfolding made
 by-made p s a h k =
     by-other (ltb maxLevels (depth s)) _ _ _ (λ e. omega arith) h λ q h.
@@ -388,7 +391,7 @@ by-all-made [] a h = (tt, h)
 by-all-made (e ∷ es) a h = by-made (e .number) (e .item) (allMade es a) h λ d l h. let r = by-all-made es a h in (((d, l), r .0), r .1)
 
 -- What is refused with 12 has the length that it carries, and has not the room.
-room-refused : (room : ℕ) (w : List ℕ) (n : ℕ) → inRoom room w ≡ refused bufferShort n → (length w ≡ n) × (room < length w)
+pub room-refused : (room : ℕ) (w : List ℕ) (n : ℕ) → inRoom room w ≡ refused bufferShort n → (length w ≡ n) × (room < length w)
 unfolding inRoom
 room-refused room w n = rule (λ a. a ≡ refused bufferShort n → (length w ≡ n) × (room < length w)) (ltb room (length w)) _ _ (λ p h. (same-refusal h .1, ltb-true _ _ p)) λ _ h.
     absurd (not-answered (sym h))

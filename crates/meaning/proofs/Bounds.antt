@@ -1,5 +1,7 @@
 -- What the answers of fill and join carry is small, for any input.
---     fill-small, join-small     a refusal has one of the paper's numbers, and no place over 65,536; an answer is no longer than the longest sheet
+--     Small                      a refusal has one of the paper's numbers; its place, and the length of an answer, are no more than the longest table has bytes
+--     fill-small, join-small     so for any input
+--     onto-small, room-small, made-small     what is to be shown of each step
 -- Assumes nothing.
 use Prim.Native.Nat.{ℕ, suc, _+_, _*_, _≤_}
 use mathlib.Core.Path.{_≡_, refl}
@@ -22,31 +24,32 @@ use Rattle.meaning.proofs.Rules.{rule}
 use Rattle.meaning.proofs.Faults.{refusal-small}
 use Rattle.meaning.proofs.Numbered.{each-length}
 use Rattle.meaning.proofs.Join.{ProperEntry, join-proper}
-use Rattle.meaning.proofs.SheetBytes.{longest, sheet-read, sheet-length, sheet-refusal}
+use Rattle.meaning.proofs.SheetBytes.{sheet-read, sheet-length, sheet-refusal}
+use Rattle.meaning.proofs.TableBytes.{longestTable}
 use Rattle.meaning.proofs.Answers.{proper-entries}
 
--- the largest place: a blank's number is below it, and so are 32 encodings together
+-- the largest place: the end of the longest table. A blank's number is below it, and so are 32 encodings together
 abbrev pub farthest : ℕ
-farthest = 65536
+farthest = longestTable
 
 -- an answer that carries small numbers
 abbrev pub Small : Answer → Type 0
-Small (answered w) = length w ≤ longest
+Small (answered w) = length w ≤ farthest
 Small (refused number place) = (number ≤ noSuchPart) × (place ≤ farthest)
 
 -- What was read is handed on; a refusal of reading has to be small.
-onto-small : {A : Type 0} (r : Reading A) (f : A → Answer) → ((a : A) (w : List ℕ) → r ≡ got a w → Small (f a)) → ((n p : ℕ) → r ≡ bad n p → Small (refused n p)) → Small (onto r f)
+pub onto-small : {A : Type 0} (r : Reading A) (f : A → Answer) → ((a : A) (w : List ℕ) → r ≡ got a w → Small (f a)) → ((n p : ℕ) → r ≡ bad n p → Small (refused n p)) → Small (onto r f)
 unfolding onto
 onto-small (got a w) f h k = h a w refl
 onto-small (bad n p) f h k = k n p refl
 
 -- An answer in its room is small, where it is short.
-room-small : (room : ℕ) (w : List ℕ) → length w ≤ longest → Small (inRoom room w)
+pub room-small : (room : ℕ) (w : List ℕ) → length w ≤ farthest → Small (inRoom room w)
 unfolding inRoom
 room-small room w h = rule Small (ltb room (length w)) _ _ (λ _. (omega arith, omega arith)) (λ _. h)
 
 -- A made shape is refused at a small place, or is short.
-made-small : (p : ℕ) (s : Shape) (a : Answer) → p ≤ farthest → (length (encode s) ≤ maxBytes → Small a) → Small (made p s a)
+pub made-small : (p : ℕ) (s : Shape) (a : Answer) → p ≤ farthest → (length (encode s) ≤ maxBytes → Small a) → Small (made p s a)
 unfolding made
 made-small p s a h k =
     rule Small (ltb maxLevels (depth s)) _ _ (λ _. (omega arith, h)) λ _.

@@ -13,5 +13,10 @@ pub mod Numbered
 pub mod Plug
 pub mod Join
 pub mod SheetBytes
+pub mod TableBytes
+pub mod TableShape
 pub mod Answers
 pub mod Bounds
+pub mod TableOf
+pub mod TableSize
+pub mod TableAnswers

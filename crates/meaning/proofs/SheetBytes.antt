@@ -61,7 +61,7 @@ abbrev pub longest : ℕ
 longest = countSize + entrySize * maxEntries + countSize + maxEncodings
 
 -- Two bytes are those of the number that they are.
-two-bytes : (x y : ℕ) → x < 256 → y < 256 → twoBytes (ofTwo x y) ≡ x ∷ y ∷ []
+pub two-bytes : (x y : ℕ) → x < 256 → y < 256 → twoBytes (ofTwo x y) ≡ x ∷ y ∷ []
 two-bytes x y h k = ap₂ (λ (i j : ℕ). i ∷ j ∷ []) (omega arith) (omega arith)
 
 -- The entries of a sheet within the limits are written as bytes.
@@ -85,7 +85,7 @@ sheet-small σ h =
     (omega arith, (omega arith, bytes-append (entriesBytes (lengths σ)) (twoBytes (length (encodings σ)) ++ encodings σ) (entries-small σ (h .all)) (omega arith, (omega arith, encodings-small σ (h .all)))))
 
 -- Nothing is left where no length is left.
-no-rest : (v : List ℕ) → length v ≡ 0 → v ≡ []
+pub no-rest : (v : List ℕ) → length v ≡ 0 → v ≡ []
 no-rest [] h = refl
 no-rest (x ∷ v) h = absurd (omega arith)
 

@@ -1,5 +1,5 @@
--- 01-scope.md, "Sheets" and "Numbers that a refusal carries": what fill and join answer, for any input and any length of the lent buffer, and
--- what the lent buffer holds afterwards.
+-- 01-scope.md, "Sheets", "Node table" and "Numbers that a refusal carries": what fill, join, the writer and the way back answer, for any input and
+-- any length of the lent buffer, and what the lent buffer holds afterwards.
 use Prim.Native.Nat.{ℕ}
 use mathlib.Core.List.{List, [], _∷_, _++_}
 use lib.Dec.{ltb}
@@ -12,6 +12,8 @@ use Rattle.meaning.specs.Encode.{encode}
 use Rattle.meaning.specs.Reading.{Reading, got, bad, reading}
 use Rattle.meaning.specs.Sheet.{Sheet, fill, join, encodings, sheetBytes}
 use Rattle.meaning.specs.SheetReading.{readSheet}
+use Rattle.meaning.specs.Table.{tableBytes, tableShape, tableOf}
+use Rattle.meaning.specs.TableReading.{readTable}
 
 -- the bytes of an answer, or "a number and a place"
 pub data Answer : Type 0 where
@@ -68,3 +70,15 @@ joinAnswer first second room =
 unfoldable pub bufferAfter : List ℕ → Answer → List ℕ
 bufferAfter buffer (answered w) = w ++ drop (length w) buffer
 bufferAfter buffer (refused n p) = buffer
+
+-- The writer: "Checks: 9 by section .., 10 by node, 11 by name .., then 15, 16, 12 for the root." Their place is 0
+unfoldable pub writeAnswer : List ℕ → ℕ → Answer
+writeAnswer table room =
+    onto (readTable table) λ T.
+    made 0 (tableShape T) (inRoom room (encode (tableShape T)))
+
+-- The way back: "Faults: 1 to 8, then 12."
+unfoldable pub tableAnswer : List ℕ → ℕ → Answer
+tableAnswer bytes room =
+    onto (reading bytes) λ s.
+    inRoom room (tableBytes (tableOf s))

@@ -12,4 +12,6 @@ pub mod Parts
 pub mod Numbered
 pub mod Sheet
 pub mod SheetReading
+pub mod Table
+pub mod TableReading
 pub mod Answers
