@@ -30,6 +30,15 @@ pub const TOO_DEEP: usize = 7;
 // An input is longer than its limit.
 pub const INPUT_TOO_LONG: usize = 8;
 
+// A table's section is broken.
+pub const SECTION_BROKEN: usize = 9;
+
+// A table's node is broken.
+pub const NODE_BROKEN: usize = 10;
+
+// A table's name is broken.
+pub const NAME_BROKEN: usize = 11;
+
 // The lent buffer is shorter than the answer.
 pub const BUFFER_SHORT: usize = 12;
 
