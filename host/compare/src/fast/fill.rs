@@ -93,7 +93,11 @@ const SIZE_FOLLOWS: Put = Put {
 };
 
 /// All first bytes when no blank is named. Those that mean nothing do not come.
-const ITSELF: [Put; 128] = {
+static ITSELF: [Put; 128] = itself();
+
+const BLANKS: [Put; 32] = *itself().first_chunk().unwrap();
+
+const fn itself() -> [Put; 128] {
     let mut all = [SIZE_FOLLOWS; 128];
     let mut first = 0;
     while first < 128 {
@@ -108,9 +112,7 @@ const ITSELF: [Put; 128] = {
         first += 1;
     }
     all
-};
-
-const BLANKS: [Put; 32] = *ITSELF.first_chunk().unwrap();
+}
 
 /// What a sheet puts.
 struct Puts<'a> {
