@@ -18,6 +18,9 @@ ghost use Rattle.parts.specs.Steps.{firstAt, FirstInside, pastLong, past
 // The first byte and the payload's size.
 pub const HEAD_SIZE: usize = 3;
 
+// A blank in its long form: head and number.
+pub const LONG_BLANK: usize = 5;
+
 // Child k: place and length in the parent, or a primitive's number where the parent is packed, or a refusal.
 pub enum FoundChild {
     Part { place: usize, length: usize },

@@ -1,6 +1,7 @@
 // What a shape measures once its blanks are filled (01-scope.md, "Sheets"): found by one pass over the accepted bytes, before anything is written.
 use leaves::limits::MAX_LEVELS;
 use parts::HEAD_SIZE;
+use parts::LONG_BLANK;
 use reader::first::First;
 use reader::first::Kind;
 use reader::first::PAST_PRIMITIVES;
@@ -46,9 +47,6 @@ pub struct Summed {
     pub next: usize,
     pub sum: Sum,
 }
-
-// A blank's encoding in its long form: first byte, size, number.
-pub const LONG_BLANK: usize = 5;
 
 // Whether the encoding from start to end is a primitive's.
 fn prim_in(sheet: &[u8], start: usize, end: usize) -> bool

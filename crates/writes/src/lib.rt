@@ -5,6 +5,7 @@ use leaves::buffer::put_part;
 use leaves::buffer::put_two;
 use leaves::limits::MAX_LEVELS;
 use parts::HEAD_SIZE;
+use parts::LONG_BLANK;
 use reader::first::ARRAY;
 use reader::first::FUNCTION;
 use reader::first::First;
@@ -40,9 +41,6 @@ pub struct Places {
     pub next: usize,
     pub to: usize,
 }
-
-// A blank's encoding in its long form: first byte, size, number.
-pub const LONG_BLANK: usize = 5;
 
 // What becomes of the blank n: the sheet's encoding, or the blank itself. The place after it.
 fn put_blank(sheet: &[u8], index: &[u16], n: usize, out: &mut [u8], to: usize) -> usize
