@@ -17,18 +17,18 @@ use Rattle.meaning.specs.Refusals.{bufferShort, sheetBroken, madeTooDeep, madeT
 use Rattle.meaning.specs.Shape.{Shape, depth}
 use Rattle.meaning.specs.Encode.{encode}
 use Rattle.meaning.specs.Reading.{Reading, got, bad, reading}
-use Rattle.meaning.specs.Sheet.{Sheet, plug}
+use Rattle.meaning.specs.Sheet.{plug}
 use Rattle.meaning.specs.SheetReading.{readSheet}
 use Rattle.meaning.specs.Answers.{answered, refused, onto, inRoom, made, fillAnswer, bufferAfter}
 use Rattle.meaning.proofs.Window.{bytes-by-index}
 use Rattle.meaning.proofs.Laws.{by-reading}
-use Rattle.meaning.proofs.SheetBytes.{sheet-refusal}
 use Rattle.leaves.specs.Written.{written}
 use Rattle.reader.specs.declared.Judgement.the-variants.{Accepted, Refused}
 use Rattle.reader.specs.Said.{said}
 use Rattle.sheets.specs.declared.Checked.the-variants.{Broken}
 use Rattle.sheets.specs.Said.{checked}
 use Rattle.sheets.specs.Index.{blankIn, Ready}
+use Rattle.sheets.proofs.Whole.{broken-is}
 use Rattle.sizes.specs.declared.Size.{Size}
 use Rattle.sizes.specs.Sizes.{sizeOf, MeasureIs}
 use Rattle.fills.specs.Accepted.{IsShape}
@@ -54,12 +54,11 @@ answer-unread template sheet room n p = go (reading template) refl
 -- A sheet that the check refuses is refused with 13, after an accepted template.
 pub answer-broken : (template sheet : List ℕ) (room p : ℕ) → IsShape (reading template) → checked (readSheet sheetBroken sheet) ≡ Broken p → fillAnswer template sheet room ≡ refused sheetBroken p
 unfolding fillAnswer onto
-answer-broken template sheet room p = go (reading template) refl (readSheet sheetBroken sheet) refl
+answer-broken template sheet room p h k = go (reading template) refl h
   where
-    go : (r : Reading Shape) → reading template ≡ r → (q : Reading Sheet) → readSheet sheetBroken sheet ≡ q → IsShape r → checked q ≡ Broken p → fillAnswer template sheet room ≡ refused sheetBroken p
-    go (bad n m) e q f h k = absurd h
-    go (got t w) e (got σ v) f h k = cc
-    go (got t w) e (bad n m) f h k = rw (e, f) (let a = sheet-refusal sheetBroken sheet n m f .0 in let b : m ≡ p = cc in rw (a, b))
+    go : (r : Reading Shape) → reading template ≡ r → IsShape r → fillAnswer template sheet room ≡ refused sheetBroken p
+    go (got t w) e h = rw (e, broken-is sheetBroken sheet p k)
+    go (bad n m) e h = absurd h
 
 -- an accepted template, the shape that it is, and that the size is the shape's, filled
 pub record Found (template sheet : List ℕ) (r : Size) : Type 0 where

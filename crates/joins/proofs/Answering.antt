@@ -18,20 +18,20 @@ use Rattle.meaning.specs.Limits.{maxBytes, maxLevels, maxEntries, maxEncodings}
 use Rattle.meaning.specs.Refusals.{bufferShort, sheetBroken, secondBroken, madeTooDeep, madeTooLong, joinedTooLarge}
 use Rattle.meaning.specs.Shape.{depth}
 use Rattle.meaning.specs.Encode.{encode}
-use Rattle.meaning.specs.Reading.{Reading, got, bad}
+use Rattle.meaning.specs.Reading.{got}
 use Rattle.meaning.specs.Numbered.{All}
 use Rattle.meaning.specs.Sheet.{Sheet, join, encodings, sheetBytes}
 use Rattle.meaning.specs.SheetReading.{countSize, readSheet}
 use Rattle.meaning.specs.Answers.{Answer, answered, refused, onto, inRoom, made, allMade, madeSheet, joinAnswer, bufferAfter}
 use Rattle.meaning.proofs.Rules.{rule, both}
-use Rattle.meaning.proofs.SheetBytes.{read-sheet, sheet-read, sheet-length, sheet-refusal}
+use Rattle.meaning.proofs.SheetBytes.{read-sheet, sheet-read, sheet-length}
 use Rattle.sheets.specs.declared.Checked.the-variants.{Broken}
 use Rattle.sheets.specs.declared.Made.{Made}
 use Rattle.sheets.specs.declared.Made.the-variants.{Written, Refused}
 use Rattle.sheets.specs.Said.{checked, madeSaid}
 use Rattle.sheets.specs.Steps.{entryPlace}
 use Rattle.sheets.specs.Index.{sheetIn, Ready}
-use Rattle.sheets.proofs.Whole.{checked-place}
+use Rattle.sheets.proofs.Whole.{checked-place, broken-is}
 use Rattle.sheets.proofs.Places.{ready-within}
 use Rattle.joins.specs.declared.Measured.{Measured}
 use Rattle.joins.specs.declared.Measured.the-variants.{Deep, Long}
@@ -151,14 +151,6 @@ module _ {s index t other : List ℕ} (r : Ready s index) (q : Ready t other) wh
           → Said buffer (joinAnswer s t (length buffer)) (Written (entryPlace count + countSize + bytes)) after
       unfolding bufferAfter written
       join-written l k e = rw (join-answered l k) (rw join-length, e ∙ rw zero-add)
-
--- A sheet that the check refuses is refused at its place, with the number of whose it is.
-broken-is : (broken : ℕ) (s : List ℕ) (p : ℕ) → checked (readSheet broken s) ≡ Broken p → readSheet broken s ≡ bad broken p
-broken-is broken s p = go (readSheet broken s) refl
-  where
-    go : (r : Reading Sheet) → readSheet broken s ≡ r → checked r ≡ Broken p → r ≡ bad broken p
-    go (got σ w) e h = cc
-    go (bad n q) e h = let a = sheet-refusal broken s n q e .0 in let b : q ≡ p = cc in rw (a, b)
 
 -- The first is looked at first,
 pub join-first-broken : (first second : List ℕ) (room p : ℕ) → checked (readSheet sheetBroken first) ≡ Broken p → joinAnswer first second room ≡ refused sheetBroken p

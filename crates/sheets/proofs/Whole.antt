@@ -2,6 +2,7 @@
 --     steps-checked     so for every list of bytes
 --     sheet-counts      how many entries and bytes a sheet that is read has
 --     checked-place     the place of a broken sheet does not depend on the refusal's number
+--     broken-is         a sheet that the check refuses is refused so by reading
 -- Assumes nothing.
 use Prim.Native.Nat.{ℕ, zero, suc, _+_, _*_, _-_, _<_}
 use mathlib.Core.Path.{_≡_, refl, sym, _∙_, ap, ap₂}
@@ -26,7 +27,7 @@ use Rattle.meaning.proofs.Rules.{facts, both}
 use Rattle.meaning.proofs.Window.{bytes-by-index}
 use Rattle.meaning.proofs.Complete.{two-value}
 use Rattle.meaning.proofs.Sound.{same-got, by-next, by-else}
-use Rattle.meaning.proofs.SheetBytes.{sheet-read, sheet-length}
+use Rattle.meaning.proofs.SheetBytes.{sheet-read, sheet-length, sheet-refusal}
 use Rattle.reader.specs.Said.{said}
 use Rattle.sheets.specs.declared.Checked.{Checked}
 use Rattle.sheets.specs.declared.Checked.the-variants.{Sound, Broken}
@@ -173,3 +174,11 @@ module _ (broken : ℕ) where
 -- The check of a sheet says the same, whether it is refused as the first or as the second.
 pub checked-place : (m n : ℕ) (s : List ℕ) → ((i : ℕ) → getD s i 0 < 256) → checked (readSheet m s) ≡ checked (readSheet n s)
 checked-place m n s b = sym (steps-checked m s b) ∙ steps-checked n s b
+
+-- A sheet that the check refuses is refused at that place, with the number of whose it is.
+pub broken-is : (broken : ℕ) (s : List ℕ) (p : ℕ) → checked (readSheet broken s) ≡ Broken p → readSheet broken s ≡ bad broken p
+broken-is broken s p = go (readSheet broken s) refl
+  where
+    go : (r : Reading Sheet) → readSheet broken s ≡ r → checked r ≡ Broken p → r ≡ bad broken p
+    go (got σ w) e h = cc
+    go (bad n q) e h = let a = sheet-refusal broken s n q e .0 in let b : q ≡ p = cc in rw (a, b)
