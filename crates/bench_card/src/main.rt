@@ -1,7 +1,7 @@
 // Runs the bench card's cases of fill and join (01-scope.md, "Bytes on the bench card" and "Slips a good mechanic makes") and prints, for each, the
 // answer and every byte of the lent buffer, which held EE before.
+use leaves::buffer::Made;
 use libc::STDOUT_FILENO;
-use sheets::Made;
 
 fn print(text: &[u8]) {
     io::write_all(STDOUT_FILENO, text);

@@ -27,6 +27,9 @@ use Rattle.meaning.proofs.Faults.{refusal-small}
 use Rattle.meaning.proofs.SheetBytes.{sheet-read, sheet-refusal}
 use Rattle.meaning.proofs.Bounds.{farthest, Small}
 use Rattle.meaning.proofs.Parts.{children-few, names-few, child-inside, packed-number, name-inside}
+use Rattle.leaves.specs.declared.buffer.Made.{Made}
+use Rattle.leaves.specs.declared.buffer.Made.the-variants as made
+use Rattle.leaves.specs.Said.{madeSaid}
 use Rattle.reader.specs.declared.Judgement.{Judgement}
 use Rattle.reader.specs.declared.Judgement.the-variants.{Accepted, Refused}
 use Rattle.reader.specs.Said.{said}
@@ -37,9 +40,7 @@ use Rattle.parts.specs.declared.FoundName.the-variants as name
 use Rattle.parts.specs.Said.{toldChild, childSaid, nameSaid}
 use Rattle.sheets.specs.declared.Checked.{Checked}
 use Rattle.sheets.specs.declared.Checked.the-variants as sheet
-use Rattle.sheets.specs.declared.Made.{Made}
-use Rattle.sheets.specs.declared.Made.the-variants as made
-use Rattle.sheets.specs.Said.{checked, madeSaid}
+use Rattle.sheets.specs.Said.{checked}
 use Rattle.board.specs.declared.Answer.{Answer}
 use Rattle.board.specs.Answers.{answered, refused, readAnswer, childAnswered, childAnswer, nameAnswer, sheetAnswer, madeAnswer}
 

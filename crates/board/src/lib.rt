@@ -1,10 +1,10 @@
 // Every call that a host makes, on byte slices and plain numbers. Each trusts nobody to have looked first. include/shiulbart.h is this page for C.
+use leaves::buffer::Made;
 use leaves::refusals::SHEET_BROKEN;
 use parts::FoundChild;
 use parts::FoundName;
 use reader::Judgement;
 use sheets::Checked;
-use sheets::Made;
 ghost use mathlib.Core.Path.{_≡_};
 ghost use Prim.Native.Nat.{_<_};
 ghost use lib.ListN.{length};

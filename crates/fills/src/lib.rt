@@ -1,5 +1,6 @@
 // Fill (01-scope.md, "Sheets"): the template with all blanks that the sheet names replaced at one moment. It is measured first and written second,
 // so a refusal has written nothing.
+use leaves::buffer::Made;
 use leaves::limits::MAX_BYTES;
 use leaves::limits::MAX_LEVELS;
 use leaves::refusals::BUFFER_SHORT;
@@ -8,12 +9,11 @@ use leaves::refusals::MADE_TOO_LONG;
 use leaves::refusals::SHEET_BROKEN;
 use reader::Judgement;
 use sheets::Checked;
-use sheets::Made;
 ghost use mathlib.Core.Path.{_≡_};
 ghost use lib.ListN.{length};
 ghost use Rattle.meaning.specs.Reading.{reading};
 ghost use Rattle.meaning.specs.Answers.{fillAnswer, bufferAfter};
-ghost use Rattle.sheets.specs.Said.{madeSaid};
+ghost use Rattle.leaves.specs.Said.{madeSaid};
 ghost use Rattle.sheets.specs.Index.{Ready};
 ghost use Rattle.fills.specs.Accepted.{IsShape};
 

@@ -12,6 +12,9 @@ use native.Mathlib.Omega.{arith}
 use lib.Dec.{ltb}
 use lib.ListN.{length, getD, length-append}
 use borrow.Author.Tests.{le-ltb, lt-ltb, ltb-false}
+use Rattle.leaves.specs.declared.buffer.Made.{Made}
+use Rattle.leaves.specs.declared.buffer.Made.the-variants.{Written, Refused}
+use Rattle.leaves.specs.Said.{madeSaid}
 use Rattle.leaves.specs.Written.{written}
 use Rattle.meaning.specs.Rules.{_⇒_∣_}
 use Rattle.meaning.specs.Limits.{maxBytes, maxLevels, maxEntries, maxEncodings}
@@ -26,9 +29,7 @@ use Rattle.meaning.specs.Answers.{Answer, answered, refused, onto, inRoom, made
 use Rattle.meaning.proofs.Rules.{rule, both}
 use Rattle.meaning.proofs.SheetBytes.{read-sheet, sheet-read, sheet-length}
 use Rattle.sheets.specs.declared.Checked.the-variants.{Broken}
-use Rattle.sheets.specs.declared.Made.{Made}
-use Rattle.sheets.specs.declared.Made.the-variants.{Written, Refused}
-use Rattle.sheets.specs.Said.{checked, madeSaid}
+use Rattle.sheets.specs.Said.{checked}
 use Rattle.sheets.specs.Steps.{entryPlace}
 use Rattle.sheets.specs.Index.{sheetIn, Ready}
 use Rattle.sheets.proofs.Whole.{checked-place, broken-is}

@@ -1,6 +1,7 @@
 // Join (01-scope.md, "Sheets"): each blank of the first sheet with its shape filled by the second, and each blank only in the second as it is
 // there. The numbers of both rise, so the joined entries are met in order by going through both at once: to count them, to measure them, and to
 // write them. A refusal has written nothing.
+use leaves::buffer::Made;
 use leaves::buffer::put_part;
 use leaves::buffer::put_two;
 use leaves::limits::MAX_BYTES;
@@ -16,7 +17,6 @@ use leaves::refusals::SHEET_BROKEN;
 use sheets::COUNT_SIZE;
 use sheets::Checked;
 use sheets::ENTRY_SIZE;
-use sheets::Made;
 ghost use mathlib.Core.Path.{_≡_};
 ghost use Prim.Native.Nat.{_≤_, _<_, _+_};
 ghost use lib.ListN.{length};
@@ -26,7 +26,7 @@ ghost use Rattle.meaning.specs.Sheet.{join, lengths, entriesBytes, encodings, s
 ghost use Rattle.meaning.specs.SheetReading.{countSize};
 ghost use Rattle.meaning.specs.Answers.{joinAnswer, bufferAfter};
 ghost use Rattle.leaves.specs.Written.{written};
-ghost use Rattle.sheets.specs.Said.{madeSaid};
+ghost use Rattle.leaves.specs.Said.{madeSaid};
 ghost use Rattle.sheets.specs.Steps.{entryPlace};
 ghost use Rattle.sheets.specs.Index.{sheetIn, Ready};
 ghost use Rattle.joins.specs.Merge.{Whose, nextEntry, TurnIs, spanOf, Fitting, measuredAll};

@@ -1,3 +1,4 @@
 pub mod Leb
 pub mod Written
+pub mod Said
 pub mod Onward

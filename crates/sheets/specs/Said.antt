@@ -1,10 +1,7 @@
--- What the answers of the sheet check, of fill and of join say: this paper's number and values for each of their cases. To be believed.
+-- What the answer of the sheet check says: this paper's number and values for each of its cases. To be believed.
 use lib.ListN.{length}
 use Rattle.meaning.specs.Reading.{Reading, got, bad}
 use Rattle.meaning.specs.Sheet.{Sheet, encodings}
-use Rattle.meaning.specs.Answers.{Answer, answered, refused}
-use Rattle.sheets.specs.declared.Made.{Made}
-use Rattle.sheets.specs.declared.Made.the-variants.{Written, Refused}
 use Rattle.sheets.specs.declared.Checked.{Checked}
 use Rattle.sheets.specs.declared.Checked.the-variants.{Sound, Broken}
 
@@ -13,8 +10,3 @@ use Rattle.sheets.specs.declared.Checked.the-variants.{Sound, Broken}
 abbrev pub checked : Reading Sheet → Checked
 checked (got σ left) = Sound (length σ) (length (encodings σ))
 checked (bad number place) = Broken place
-
--- an answer of fill or join writes its bytes, and says how many they are; a refusal has its number and place
-abbrev pub madeSaid : Answer → Made
-madeSaid (answered w) = Written (length w)
-madeSaid (refused number place) = Refused number place

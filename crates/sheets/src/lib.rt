@@ -25,12 +25,6 @@ pub const INDEX_SIZE: usize = 64;
 
 pub const DEPTHS: usize = 32;
 
-// What fill and join answer: how many bytes they wrote, or a refusal with its number and place.
-pub enum Made {
-    Written { length: usize },
-    Refused { number: usize, place: usize },
-}
-
 // How a sheet is judged: sound, with how many entries and how many bytes of encodings it has, or broken at a place.
 pub enum Checked {
     Sound { entries: usize, bytes: usize },

@@ -6,7 +6,7 @@ use native.Mathlib.Nat.{zero-add}
 use mathlib.Core.Path.{refl, ap, _∙_}
 use lib.ListN.{length}
 use Rattle.meaning.specs.Answers.{bufferAfter}
-use Rattle.sheets.specs.declared.Made.the-variants.{Written}
+use Rattle.leaves.specs.declared.buffer.Made.the-variants.{Written}
 use Rattle.fills.proofs.Cases.{accepted-short, found, found-length, answer-deep, answer-long, answer-short, answer-made, buffer-made}
 use Rattle.fills.proofs.fill_sound.Statement.{statement}
 use Rattle.fills.proofs.fill_sound.Tie as tie
