@@ -1,3 +1,4 @@
 pub mod Said
 pub mod Steps
 pub mod Pass
+pub mod Heads

@@ -1,5 +1,7 @@
 // Children and names of an accepted shape, in place (01-scope.md, "Children and names"): the bytes are judged once, and then the root's own list
 // is gone through once; a child is passed over by its head and not read again. The steps over an accepted encoding serve other calls too.
+pub mod put;
+
 use leaves::Leb;
 use leaves::refusals::NO_SUCH_PART;
 use reader::Judgement;

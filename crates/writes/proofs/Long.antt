@@ -17,11 +17,12 @@ use Rattle.reader.specs.Walk.{shaped}
 use Rattle.reader.specs.declared.first.Kind.{Kind}
 use Rattle.reader.specs.declared.first.Kind.the-variants.{Array, Map, Record, Function, Symbol, Variable}
 use Rattle.reader.specs.declared.first.First.the-variants.{Long}
+use Rattle.parts.specs.Heads.{headBytes}
 use Rattle.parts.specs.Steps.{firstAt, listAt}
 use Rattle.parts.specs.declared.Listing.{Listing}
 use Rattle.parts.specs.Pass.{Came, came, passItems, passShape}
 use Rattle.parts.proofs.Passing.{list-items}
-use Rattle.writes.specs.Writes.{Items, writes, packByte, headBytes, listBytes, Fits, Wrote, WroteItems, Packed, PackedIs}
+use Rattle.writes.specs.Writes.{Items, writes, packByte, listBytes, Fits, Wrote, WroteItems, Packed, PackedIs}
 use Rattle.writes.specs.declared.Places.{Places}
 use Rattle.writes.specs.declared.Peek.{Peek}
 

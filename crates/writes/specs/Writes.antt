@@ -8,16 +8,15 @@ use lib.ListN.{length}
 use lib.Dec.{ltb}
 use Rattle.meaning.specs.Rules.{_⇒_∣_}
 use Rattle.meaning.specs.Limits.{maxBytes}
-use Rattle.meaning.specs.Numbers.{twoBytes}
 use Rattle.meaning.specs.Shape.{Shape}
-use Rattle.meaning.specs.FirstByte.{shortBlanks, primByte, kindByte, arrayByte, mapByte}
-use Rattle.meaning.specs.FirstByte as Meant
+use Rattle.meaning.specs.FirstByte.{shortBlanks, primByte, arrayByte, mapByte}
 use Rattle.meaning.specs.Encode.{encode}
 use Rattle.meaning.specs.Reading.{Reading, got, bad}
 use Rattle.meaning.specs.Sheet.{plug}
 use Rattle.leaves.specs.Written.{written}
 use Rattle.reader.specs.declared.first.Kind.{Kind}
 use Rattle.reader.specs.declared.first.Kind.the-variants.{Array, Map, Record, Function, Symbol, Variable}
+use Rattle.parts.specs.Heads.{headBytes}
 use Rattle.parts.specs.Pass.{Came, Pass, passItems, passShape}
 use Rattle.writes.specs.declared.Places.{Places}
 use Rattle.writes.specs.declared.Peek.{Peek}
@@ -49,17 +48,6 @@ abbrev pub more : Option ℕ → Option ℕ → Option ℕ
 more none q = none
 more (some p) none = none
 more (some p) (some q) = some (5 * p + q)
-
-abbrev pub kindSays : Kind → ℕ
-kindSays Array = kindByte Meant.array
-kindSays Map = kindByte Meant.map
-kindSays Record = kindByte Meant.rec
-kindSays Function = kindByte Meant.function
-kindSays Symbol = kindByte Meant.symbol
-kindSays Variable = kindByte Meant.variable
-
-abbrev pub headBytes : Kind → ℕ → List ℕ
-headBytes kind n = kindSays kind ∷ twoBytes n
 
 -- the form of one byte that a list has, 0 for none
 abbrev pub packByte : Kind → Option ℕ → ℕ

@@ -2,23 +2,18 @@
 // fit. A payload is written before its head, which says how long it is; what becomes one byte is found out before anything of it is written.
 use leaves::buffer::put_byte;
 use leaves::buffer::put_part;
-use leaves::buffer::put_two;
 use leaves::limits::MAX_LEVELS;
 use parts::HEAD_SIZE;
 use parts::LONG_BLANK;
-use reader::first::ARRAY;
-use reader::first::FUNCTION;
+use parts::put::put_blank;
+use parts::put::put_head;
 use reader::first::First;
 use reader::first::Kind;
-use reader::first::MAP;
 use reader::first::PACKED;
 use reader::first::PACKED_MAPS;
 use reader::first::PAST_PRIMITIVES;
 use reader::first::PRIMITIVES;
-use reader::first::RECORD;
 use reader::first::SHORT_BLANKS;
-use reader::first::SYMBOL;
-use reader::first::VARIABLE;
 use sheets::Entry;
 ghost use mathlib.Core.Path.{_≡_};
 ghost use mathlib.Core.Bool.{false};
@@ -34,7 +29,7 @@ ghost use Rattle.reader.specs.Walk.{shaped};
 ghost use Rattle.parts.specs.Steps.{firstAt};
 ghost use Rattle.parts.specs.Pass.{passItems, passShape};
 ghost use Rattle.sheets.specs.Index.{Ready, blankIn};
-ghost use Rattle.writes.specs.Writes.{primCode, codeSaid, PeekIs, PackedIs, kindSays, headBytes, shortBytes, writes, Fits, Wrote, FitsItems, WroteItems, RoomFor, WroteFor};
+ghost use Rattle.writes.specs.Writes.{primCode, codeSaid, PeekIs, PackedIs, shortBytes, writes, Fits, Wrote, FitsItems, WroteItems, RoomFor, WroteFor};
 
 // The next place of the template, and of the buffer.
 pub struct Places {
@@ -43,22 +38,13 @@ pub struct Places {
 }
 
 // What becomes of the blank n: the sheet's encoding, or the blank itself. The place after it.
-fn put_blank(sheet: &[u8], index: &[u16], n: usize, out: &mut [u8], to: usize) -> usize
+fn put_filled(sheet: &[u8], index: &[u16], n: usize, out: &mut [u8], to: usize) -> usize
     requires { ⌜ Ready (now sheet) (now index) × (n < 65536) × (to + length (encode (blankIn (now sheet) n)) ≤ length (now out)) ⌝ }
     ensures after { λ r. ⌜ r ≡ to + length (encode (blankIn (now (sheet .entry)) n)) ⌝ }
     ensures wrote { λ _. ⌜ now (out .exit) ≡ written (now (out .entry)) to (encode (blankIn (now (sheet .entry)) n)) ⌝ }
 {
     match sheets::entry_of(sheet, index, n) {
-        Entry::Absent => {
-            if n < SHORT_BLANKS as usize {
-                put_byte(out, to, n as u8);
-                return to + 1;
-            }
-            put_byte(out, to, VARIABLE);
-            put_two(out, to + 1, 2);
-            put_two(out, to + HEAD_SIZE, n);
-            to + LONG_BLANK
-        }
+        Entry::Absent => put_blank(n, out, to),
         Entry::Present {
             start,
             end,
@@ -77,33 +63,10 @@ fn put_short(sheet: &[u8], index: &[u16], b: u8, out: &mut [u8], to: usize) -> u
     ensures wrote { λ _. ⌜ now (out .exit) ≡ written (now (out .entry)) to (shortBytes (blankIn (now (sheet .entry))) b) ⌝ }
 {
     if b < SHORT_BLANKS {
-        return put_blank(sheet, index, b as usize, out, to);
+        return put_filled(sheet, index, b as usize, out, to);
     }
     put_byte(out, to, b);
     to + 1
-}
-
-// The first byte of a kind.
-fn kind_byte(kind: Kind) -> u8
-    ensures { λ r. ⌜ r ≡ kindSays kind ⌝ }
-{
-    match kind {
-        Kind::Array => ARRAY,
-        Kind::Map => MAP,
-        Kind::Record => RECORD,
-        Kind::Function => FUNCTION,
-        Kind::Symbol => SYMBOL,
-        Kind::Variable => VARIABLE,
-    }
-}
-
-// The head of a payload of so many bytes.
-fn put_head(kind: Kind, size: usize, out: &mut [u8], to: usize)
-    requires { ⌜ (size < 65536) × (to + 3 ≤ length (now out)) ⌝ }
-    ensures { λ _. ⌜ now (out .exit) ≡ written (now (out .entry)) to (headBytes kind size) ⌝ }
-{
-    put_byte(out, to, kind_byte(kind));
-    put_two(out, to + 1, size);
 }
 
 // No primitive: the primitives' numbers are 0 to 4.
@@ -283,7 +246,7 @@ fn put_plain(
     if s.len() - at < LONG_BLANK {
         return Places { next: at, to };
     }
-    let after = put_blank(sheet, index, leaves::two_at(s, at + HEAD_SIZE), out, to);
+    let after = put_filled(sheet, index, leaves::two_at(s, at + HEAD_SIZE), out, to);
     Places {
         next: at + LONG_BLANK,
         to: after,

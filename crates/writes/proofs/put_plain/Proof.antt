@@ -38,8 +38,8 @@ returns-2 c =
     rw (blank-cut (writes (blankIn (a .sheet .now))) (a .left) (a .s .now) (a .at) (q .pre .2) (q .pre .3) (sym (c .before .before .named-kind .ensures) ∙ c .before .if1 .left) (c .if2 .taken))
     (record { next-is = refl; to-is = omega arith; wrote = sym (written-none (a .out .now) (a .to)) })
 
-put-blank-requires : tie.Need-put-blank-requires
-put-blank-requires c κs =
+put-filled-requires : tie.Need-put-filled-requires
+put-filled-requires c κs =
     let q = c .before .before .before .before .before .before .before .before .before in
     let a = q .args in
     let t = c .before .two-at .ensures in
@@ -51,7 +51,7 @@ returns-3 c =
     let q = c .before .before .before .before .before .before .before .before .before .before .before .before in
     let a = q .args in
     rw (shape-blank (writes (blankIn (a .sheet .now))) (a .left) (a .s .now) (a .at) (q .pre .2) (q .pre .3) (sym (c .before .before .before .before .before .before .before .named-kind .ensures) ∙ c .before .before .before .before .before .before .if1 .left) (c .before .before .before .before .before .if2 .left), ← c .before .before .before .before .two-at .ensures .0)
-    (record { next-is = refl; to-is = c .before .before .put-blank .ensures .0; wrote = c .before .before .put-blank .ensures .1 })
+    (record { next-is = refl; to-is = c .before .before .put-filled .ensures .0; wrote = c .before .before .put-filled .ensures .1 })
 
 pub put-plain-spec : {M : Type 1} → statement M
 put-plain-spec =
@@ -68,7 +68,7 @@ put-plain-spec =
     returns-2
     (λ c. search needs)
     (λ c κs. search needs)
-    put-blank-requires
+    put-filled-requires
     (λ c. search needs)
     (λ c. search needs)
     returns-3)

@@ -8,13 +8,13 @@ use Rattle.meaning.specs.FirstByte.{shortBlanks}
 use Rattle.writes.proofs.put_short.Statement.{statement}
 use Rattle.writes.proofs.put_short.Tie as tie
 
-put-blank-requires : tie.Need-put-blank-requires
-put-blank-requires c κs =
+put-filled-requires : tie.Need-put-filled-requires
+put-filled-requires c κs =
     let q = c .before .before .before .before .before in
     (q .pre .0, omega arith, rw (lt-ltb _ shortBlanks (c .before .if1 .taken)) at (q .pre .1))
 
 returns : tie.Need-returns
-returns c = rw (lt-ltb _ shortBlanks (c .before .before .before .before .if1 .taken)) (c .before .before .put-blank .ensures)
+returns c = rw (lt-ltb _ shortBlanks (c .before .before .before .before .if1 .taken)) (c .before .before .put-filled .ensures)
 
 put-byte-requires : tie.Need-put-byte-requires
 put-byte-requires c κs = let h = rw (le-ltb _ shortBlanks (c .before .if1 .left)) at (c .before .before .before .before .before .pre .1) in omega arith
@@ -26,7 +26,7 @@ pub put-short-spec : {M : Type 1} → statement M
 put-short-spec =
     tie.close
     (tie.spec
-    put-blank-requires
+    put-filled-requires
     (λ c. search needs)
     returns
     put-byte-requires

@@ -1,13 +1,13 @@
--- `writes::put_head` meets its contract.
+-- `parts::put::put_head` meets its contract.
 -- Assumes nothing.
 use borrow.Author.Needs.{needs}
 use native.Mathlib.Omega.{arith}
 use mathlib.Core.List.{[], _∷_}
 use Rattle.meaning.specs.Numbers.{twoBytes}
 use Rattle.leaves.proofs.Written.{written-after}
-use Rattle.writes.specs.Writes.{kindSays}
-use Rattle.writes.proofs.put_head.Statement.{statement}
-use Rattle.writes.proofs.put_head.Tie as tie
+use Rattle.parts.specs.Heads.{kindSays}
+use Rattle.parts.proofs.put.put_head.Statement.{statement}
+use Rattle.parts.proofs.put.put_head.Tie as tie
 
 returns : tie.Need-returns
 returns c =
