@@ -3,12 +3,10 @@
 --     answer-unread      a template that the reader refuses
 --     answer-broken      a sheet that the check refuses
 --     answer-deep, answer-long, answer-short, answer-made     of an accepted template and sheet
---     buffer-made        the buffer after an answer
 -- Assumes nothing.
 use Prim.Native.Nat.{ℕ, _≤_, _<_}
 use mathlib.Core.Path.{_≡_, refl, _∙_, ap}
 use mathlib.Core.List.{List}
-use native.Mathlib.Nat.{zero-add}
 use native.Mathlib.Omega.{arith}
 use lib.ListN.{length, getD}
 use borrow.Author.Tests.{lt-ltb, le-ltb}
@@ -19,10 +17,9 @@ use Rattle.meaning.specs.Encode.{encode}
 use Rattle.meaning.specs.Reading.{Reading, got, bad, reading}
 use Rattle.meaning.specs.Sheet.{plug}
 use Rattle.meaning.specs.SheetReading.{readSheet}
-use Rattle.meaning.specs.Answers.{answered, refused, onto, inRoom, made, fillAnswer, bufferAfter}
+use Rattle.meaning.specs.Answers.{answered, refused, onto, inRoom, made, fillAnswer}
 use Rattle.meaning.proofs.Window.{bytes-by-index}
 use Rattle.meaning.proofs.Laws.{by-reading}
-use Rattle.leaves.specs.Written.{written}
 use Rattle.reader.specs.declared.Judgement.the-variants.{Accepted, Refused}
 use Rattle.reader.specs.Said.{said}
 use Rattle.sheets.specs.declared.Checked.the-variants.{Broken}
@@ -111,8 +108,3 @@ module _ {template sheet index : List ℕ} {r : Size} (room : ℕ) (ready : Read
       pub answer-made : r .length ≤ room → fillAnswer template sheet room ≡ answered (encode filled)
       unfolding inRoom
       answer-made h = fits ∙ rw (le-ltb room (length (encode filled)) (omega (arith, found-length)))
-
--- Bytes written from the front on are what the buffer holds after that answer.
-pub buffer-made : (d w : List ℕ) → written d 0 w ≡ bufferAfter d (answered w)
-unfolding written bufferAfter
-buffer-made d w = rw zero-add

@@ -6,15 +6,17 @@
 --     written-before     so does what is written right before
 --     written-apart      what is written before a run, apart from it, may as well be written first
 --     part-more          one byte more of a part
+--     buffer-made        what is written from the front on is what a buffer holds after that answer
 -- Assumes nothing.
 use mathlib.Core.Path.{_≡_, _∙_}
 use mathlib.Core.List.{List, [], _∷_, _++_, append-assoc}
 use Prim.Native.Nat.{ℕ, suc, _+_, _-_, _≤_, _<_}
-use native.Mathlib.Nat.{add-zero, add-assoc}
+use native.Mathlib.Nat.{add-zero, zero-add, add-assoc}
 use native.Mathlib.Omega.{arith}
 use native.Mathlib.Numerals.{add-one}
 use lib.ListN.{length, take, drop, set, getD, length-append, length-drop, take-append-drop}
 use lib.Seq.{slice, set-split, length-take-le, length-slice, take-at, drop-at, drop-drop, drop-append-le, take-append-le, take-take, take-suc}
+use Rattle.meaning.specs.Answers.{answered, bufferAfter}
 use Rattle.leaves.specs.Written.{written}
 
 pub written-length : (d : List ℕ) (to : ℕ) (w : List ℕ) → to + length w ≤ length d → length (written d to w) ≡ length d
@@ -82,3 +84,7 @@ part-more d to s from i h k =
     let m : to + length (slice from (from + i) s) ≤ length d = rw l (omega arith) in
     written-one (written d to (slice from (from + i) s)) (to + i) (getD s (from + i) 0) (rw (written-length d to (slice from (from + i) s) m) k)
     ∙ rw (slice-more s from i h) (rw l at (written-after d to (slice from (from + i) s) (getD s (from + i) 0 ∷ []) m))
+
+pub buffer-made : (d w : List ℕ) → written d 0 w ≡ bufferAfter d (answered w)
+unfolding written bufferAfter
+buffer-made d w = rw zero-add

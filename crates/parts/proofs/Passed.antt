@@ -1,4 +1,5 @@
 -- What a pass makes of an accepted encoding: what it makes of each shape, if it does so step by step.
+--     stands-slice   what stands at a place is a part of the input
 --     Making         a pass makes v of every shape, if it does so of what it meets
 --     pass-makes     then it makes v of the shape that stands at a place, and comes to the place after it
 --     pass-whole     so of a whole encoding
@@ -60,14 +61,14 @@ pub record Making {X A : Type 0} (F : Pass X A) (v : Shape → X) : Type 0 where
   pub whole : (b : ℕ) (s : Shape) → classOf b ≡ Meant.whole s → F .short b 1 ≡ v s
   pub packed : (b : ℕ) (s : Shape) → classOf b ≡ Meant.packed s → F .short b 2 ≡ v s
   pub blanks : (n : ℕ) → shortBlanks ≤ n → F .blank n ≡ v (blank n)
-  pub symbols : (ts : List Text) → F .symbol (encode (symbolOf ts)) ≡ v (symbolOf ts)
+  pub symbols : (ts : List Text) → length (encode (symbolOf ts)) ≤ 16384 → F .symbol (encode (symbolOf ts)) ≡ v (symbolOf ts)
   pub arrays : (s : Shape) → hasShort (arrayOf s) ≡ false → F .list Array [] (gathered F v (F .start) (items (arrayOf s))) ≡ v (arrayOf s)
   pub maps : (s t : Shape) → hasShort (mapOf s t) ≡ false → F .list Map [] (gathered F v (F .start) (items (mapOf s t))) ≡ v (mapOf s t)
   pub records : (f : Tree fields) → F .list Record (leb128 (count f)) (gathered F v (F .start) (items (recordOf f))) ≡ v (recordOf f)
   pub functions : (p : Tree parameters) (r : Shape) → F .list Function (leb128 (count p)) (gathered F v (F .start) (items (functionOf p r))) ≡ v (functionOf p r)
 
 -- What stands at a place inside the input is the part of the input from there.
-stands-slice : (s : List ℕ) (at : ℕ) (p q : List ℕ) → at ≤ length s → Stands s at (p ++ q) → slice at (at + length p) s ≡ p
+pub stands-slice : (s : List ℕ) (at : ℕ) (p q : List ℕ) → at ≤ length s → Stands s at (p ++ q) → slice at (at + length p) s ≡ p
 stands-slice s at p q i h = rw (take-add at (length p) s, h, take-append-seam p q) (drop-at (take at s) p at (length-take-le at s i))
 
 -- The first byte that stands at a place says what the steps find there.
@@ -228,12 +229,12 @@ module _ {X A : Type 0} (F : Pass X A) (v : Shape → X) where
         begins _ _ h ∙ rw (class-kind Meant.variable, le-ltb (length s - at) 5 (omega arith), y, z, two-value n, m .blanks n b)
 
     -- of a Symbol,
-    symbol-made : (ts : List Text) → Stands s at (encode (symbolOf ts) ++ x) → passShape F (suc left) s at ≡ came (at + length (encode (symbolOf ts))) (v (symbolOf ts))
+    symbol-made : (ts : List Text) → length (encode (symbolOf ts)) ≤ 16384 → Stands s at (encode (symbolOf ts) ++ x) → passShape F (suc left) s at ≡ came (at + length (encode (symbolOf ts))) (v (symbolOf ts))
     unfolding passFirst passLong encode
-    symbol-made ts h =
+    symbol-made ts b h =
         let q : List ℕ = leb128 (length ts) ++ textsBytes ts in
         let l = stands-length s at _ h in
-        begins _ _ h ∙ rw (class-kind Meant.symbol, past-long s at Meant.symbol q x h, stands-slice s at (sized Meant.symbol q) x (omega arith) h, m .symbols ts)
+        begins _ _ h ∙ rw (class-kind Meant.symbol, past-long s at Meant.symbol q x h, stands-slice s at (sized Meant.symbol q) x (omega arith) h, m .symbols ts b)
 
     -- of every shape with a payload.
     long-made : (t : Shape) → hasShort t ≡ false → Stands s at (encode t ++ x) → depth t ≤ suc left → length (encode t) ≤ 16384
@@ -253,7 +254,7 @@ module _ {X A : Type 0} (F : Pass X A) (v : Shape → X) where
     long-made (functionOf p r) f h d l =
         begins _ _ h ∙ rw (class-kind Meant.function)
         (list-made (passShape F left) s left ih (functionOf p r) Meant.function refl (function-items p r l) (m .functions p r) at x h d)
-    long-made (symbolOf ts) f h d l = symbol-made ts h
+    long-made (symbolOf ts) f h d l = symbol-made ts l h
 
     -- So of every shape.
     shape-made : (t : Shape) → Stands s at (encode t ++ x) → depth t ≤ suc left → length (encode t) ≤ 16384

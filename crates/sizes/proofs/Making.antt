@@ -106,7 +106,7 @@ module _ (σ : ℕ → Shape) where
         whole = λ b s h. rw h at (short-fits b);
         packed = λ b s h. rw h at (short-fits b);
         blanks = λ n h. refl;
-        symbols = λ ts. refl;
+        symbols = λ ts l. refl;
         arrays = λ s h. array-is (plug σ s);
         maps = λ s t h. map-is (plug σ s) (plug σ t);
         records = λ f.

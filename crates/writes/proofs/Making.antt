@@ -78,7 +78,7 @@ module _ (σ : ℕ → Shape) where
         whole = λ b s e. rw e at (byte-made σ b);
         packed = λ b s e. rw e at (byte-made σ b);
         blanks = λ n h. refl;
-        symbols = λ ts. refl;
+        symbols = λ ts l. refl;
         arrays = λ s h. rw (prim-encoded (plug σ s)) (array-written (asPrim (plug σ s)) (filled s));
         maps = λ s t h. rw (prim-encoded (plug σ s), prim-encoded (plug σ t)) (map-written (asPrim (plug σ s)) (asPrim (plug σ t)) (filled s ++ filled t));
         records = λ f. rw (fields-gathered f (writes σ .start), fields-kept σ f);

@@ -7,7 +7,8 @@ use mathlib.Core.Path.{refl, ap, _∙_}
 use lib.ListN.{length}
 use Rattle.meaning.specs.Answers.{bufferAfter}
 use Rattle.leaves.specs.declared.buffer.Made.the-variants.{Written}
-use Rattle.fills.proofs.Cases.{accepted-short, found, found-length, answer-deep, answer-long, answer-short, answer-made, buffer-made}
+use Rattle.leaves.proofs.Written.{buffer-made}
+use Rattle.fills.proofs.Cases.{accepted-short, found, found-length, answer-deep, answer-long, answer-short, answer-made}
 use Rattle.fills.proofs.fill_sound.Statement.{statement}
 use Rattle.fills.proofs.fill_sound.Tie as tie
 
