@@ -1,10 +1,16 @@
 -- What is held of a node is the extent of its shape.
+--     fields-count, parameters-count, texts-count     there are as many as links
 --     node-is           where that is so of the nodes before, it is so of a good node
+--     names-inside      where no name is broken, each is in the text
+--     text-long         the text of a good name is as long as the name says
+--     prim-held         a node's shape is the primitive of its kind, if it is one
 --     shapes-held       of a table whose nodes and names are good, of each node the extent of its shape is held
 -- Assumes nothing.
 use mathlib.Core.Path.{_≡_, refl, sym, _∙_, ap, ap₂}
 use mathlib.Core.Bool.{true, _&&_}
 use mathlib.Core.List.{List, _++_}
+use mathlib.Core.Option.{Option, some}
+use mathlib.Core.Option as option
 use Prim.Native.Nat.{ℕ, zero, suc, _+_, _*_, _-_, _≤_, _<_, max}
 use native.Mathlib.Nat.{add-zero}
 use native.Mathlib.Numerals.{add-one}
@@ -16,7 +22,7 @@ use borrow.Author.Tests.{ltb-false, eqb-true, eqb-false}
 use Rattle.meaning.specs.Rules.{_⇒_∣_}
 use Rattle.meaning.specs.Numbers.{leb128}
 use Rattle.meaning.specs.FirstByte.{primOf}
-use Rattle.meaning.specs.Shape.{Shape, blank, arrayOf, mapOf, recordOf, functionOf, symbolOf, depth, count}
+use Rattle.meaning.specs.Shape.{Primitive, Shape, blank, arrayOf, mapOf, recordOf, functionOf, symbolOf, depth, count}
 use Rattle.meaning.specs.Encode.{asPrim, textBytes, textsBytes, encode}
 use Rattle.meaning.specs.Reading.{some?}
 use Rattle.meaning.specs.Table.{Node, Table, arrayKind, mapKind, recordKind, functionKind, symbolKind, nodeOf, linkOf, textOf, textsFrom, fieldsFrom, parametersFrom, nodeShape, shapeIn, shapeOf}
@@ -33,6 +39,25 @@ use Rattle.extents.proofs.Capped.{capped, text-capped, shape-capped, co
 -- Two parts that are added one by one are added as one.
 joined-length : (a : ℕ) (u v : List ℕ) → a + length u + length v ≡ a + length (u ++ v)
 joined-length a u v = let e = length-append u v in omega arith
+
+module _ (T : Table) (child : ℕ → Shape) where
+  -- There are as many fields as links.
+  pub fields-count : (b a : ℕ) → count (fieldsFrom T child a b) ≡ b
+  unfolding fieldsFrom count
+  fields-count zero a = refl
+  fields-count (suc b) a = ap suc (fields-count b (suc a))
+
+  -- There are as many parameters.
+  pub parameters-count : (b a : ℕ) → count (parametersFrom T child a b) ≡ b
+  unfolding parametersFrom count
+  parameters-count zero a = refl
+  parameters-count (suc b) a = ap suc (parameters-count b (suc a))
+
+-- There are as many texts.
+pub texts-count : (T : Table) (b a : ℕ) → length (textsFrom T a b) ≡ b
+unfolding textsFrom
+texts-count T zero a = refl
+texts-count T (suc b) a = ap suc (texts-count T b (suc a))
 
 -- T is a table whose links and names are those of the rest; child says the shapes of the nodes before node i, and held their extents
 module _ (T : Table) (rest : List ℕ) (l m : ℕ) (linked : (x : ℕ) → x < l → linkOf T x ≡ linkAt rest x) (sized : (k : ℕ) → k < m → length (textOf T k) ≡ nameAt rest l k .size) where
@@ -92,30 +117,12 @@ module _ (T : Table) (rest : List ℕ) (l m : ℕ) (linked : (x : ℕ) → x < l
         more-length : (s : ℕ) (u v : List ℕ) (x : ℕ) → s + length u + (length v + x) ≡ s + (length (u ++ v) + x)
         more-length s u v x = let e = length-append u v in omega arith
 
-    -- There are as many fields as links.
-    fields-count : (b a : ℕ) → count (fieldsFrom T child a b) ≡ b
-    unfolding fieldsFrom count
-    fields-count zero a = refl
-    fields-count (suc b) a = ap suc (fields-count b (suc a))
-
-    -- There are as many parameters.
-    parameters-count : (b a : ℕ) → count (parametersFrom T child a b) ≡ b
-    unfolding parametersFrom count
-    parameters-count zero a = refl
-    parameters-count (suc b) a = ap suc (parameters-count b (suc a))
-
-    -- There are as many texts.
-    texts-count : (b a : ℕ) → length (textsFrom T a b) ≡ b
-    unfolding textsFrom
-    texts-count zero a = refl
-    texts-count (suc b) a = ap suc (texts-count b (suc a))
-
     -- The extent of a Record is that of its shape.
     record-is : (a b : ℕ) → a + b ≤ l → goodFrom rest Named i m a b ≡ true → closed (3 + lebSize b) (sumRun held rest l Named a b none) ≡ extentOf (recordOf (fieldsFrom T child a b))
     unfolding encode depth
     record-is a b h g =
         let f = fieldsFrom T child a b in
-        rw (fields-count b a, length-append (leb128 b) (encode f), leb-length b)
+        rw (fields-count T child b a, length-append (leb128 b) (encode f), leb-length b)
         (ap (closed (3 + lebSize b)) (fields-sum b a 0 0 h g) ∙ counted-capped (lebSize b) (length (encode f)) (depth f))
 
     -- So is that of a Symbol.
@@ -123,7 +130,7 @@ module _ (T : Table) (rest : List ℕ) (l m : ℕ) (linked : (x : ℕ) → x < l
     unfolding encode depth
     symbol-is a b h g =
         let w = textsBytes (textsFrom T a b) in
-        rw (texts-count b a, length-append (leb128 b) w, leb-length b)
+        rw (texts-count T b a, length-append (leb128 b) w, leb-length b)
         (ap (closed (3 + lebSize b)) (texts-sum b a 0 0 h g) ∙ counted-capped (lebSize b) (length w) 0)
 
     -- So is that of a Function.
@@ -131,7 +138,7 @@ module _ (T : Table) (rest : List ℕ) (l m : ℕ) (linked : (x : ℕ) → x < l
     unfolding encode depth
     function-is a b h g =
         let q = parametersFrom T child a b in let r = child (linkOf T (a + b) .target) in
-        rw (parameters-count b a, length-append (leb128 b) (encode q ++ encode r), length-append (encode q) (encode r), leb-length b)
+        rw (parameters-count T child b a, length-append (leb128 b) (encode q ++ encode r), length-append (encode q) (encode r), leb-length b)
         (ap (closed (3 + lebSize b)) (bare-sum b a 0 0 h g) ∙ counted-capped (lebSize b) (length (encode q) + length (encode r)) (max (depth q) (depth r)))
 
     -- whether a node before is a primitive, its shape says
@@ -178,22 +185,30 @@ module _ (T : Table) (rest : List ℕ) (l m : ℕ) (linked : (x : ℕ) → x < l
           one-less zero h k g = absurd (omega arith)
           one-less (suc b) h k g = let z : suc b - 1 ≡ b = omega arith in rw z (function-is (n .a) b k g)
 
--- A node is a primitive where its shape is one.
-node-prim : (T : Table) (child : ℕ → Shape) (n : Node) → ltb (n .kind) arrayKind ≡ some? (asPrim (nodeShape T child n))
+-- the primitive of a kind, if it is one
+abbrev pub primitiveOf : ℕ → Option Primitive
+primitiveOf k = ltb k arrayKind ⇒ some (primOf k) ∣ λ _. option.none
+
+-- A kind is a primitive's where it has one.
+has-primitive : (k : ℕ) → ltb k arrayKind ≡ some? (primitiveOf k)
+has-primitive k = cases (ltb k arrayKind) (λ t. rw t) (λ t. rw t)
+
+-- A node is the primitive of its kind where its shape is one.
+node-prim : (T : Table) (child : ℕ → Shape) (n : Node) → asPrim (nodeShape T child n) ≡ primitiveOf (n .kind)
 unfolding nodeShape asPrim
 node-prim T child n =
-    rule P (ltb (n .kind) arrayKind) _ _ (λ t. t) λ t.
-    rule P (eqb (n .kind) arrayKind) _ _ (λ _. t) λ _.
-    rule P (eqb (n .kind) mapKind) _ _ (λ _. t) λ _.
-    rule P (eqb (n .kind) recordKind) _ _ (λ _. t) λ _.
-    rule P (eqb (n .kind) functionKind) _ _ (λ _. t) λ _.
-    rule P (eqb (n .kind) symbolKind) _ _ (λ _. t) λ _. t
+    rule P (ltb (n .kind) arrayKind) _ _ (λ t. rw t) λ t.
+    rule P (eqb (n .kind) arrayKind) _ _ (λ _. rw t) λ _.
+    rule P (eqb (n .kind) mapKind) _ _ (λ _. rw t) λ _.
+    rule P (eqb (n .kind) recordKind) _ _ (λ _. rw t) λ _.
+    rule P (eqb (n .kind) functionKind) _ _ (λ _. rw t) λ _.
+    rule P (eqb (n .kind) symbolKind) _ _ (λ _. rw t) λ _. rw t
   where
     P : Shape → Type 0
-    P s = ltb (n .kind) arrayKind ≡ some? (asPrim s)
+    P s = asPrim s ≡ primitiveOf (n .kind)
 
 -- Where none of the names from name k on is broken, each is in the text.
-names-inside : (rest : List ℕ) (l m c : ℕ) (b k : ℕ) → firstBadName rest l m c b k ≡ k + b → (j : ℕ) → k ≤ j → j < k + b → nameAt rest l j .start + nameAt rest l j .size ≤ c
+pub names-inside : (rest : List ℕ) (l m c : ℕ) (b k : ℕ) → firstBadName rest l m c b k ≡ k + b → (j : ℕ) → k ≤ j → j < k + b → nameAt rest l j .start + nameAt rest l j .size ≤ c
 unfolding firstBadName goodName
 names-inside rest l m c zero k e j p q = absurd (omega arith)
 names-inside rest l m c (suc b) k e j p q =
@@ -212,7 +227,7 @@ module _ (nodes rest : List ℕ) (n l m c : ℕ) (whole : length nodes ≡ nodeS
   T = tableIn nodes rest n l m
 
   -- The text of a name is as long as the name says.
-  text-long : (k : ℕ) → k < m → length (textOf T k) ≡ nameAt rest l k .size
+  pub text-long : (k : ℕ) → k < m → length (textOf T k) ≡ nameAt rest l k .size
   text-long k h =
       let a = textPlace l m + nameAt rest l k .start in let z = nameAt rest l k .size in
       let i = names-inside rest l m c m 0 (omega (arith, named)) k (omega arith) (omega arith) in
@@ -220,6 +235,12 @@ module _ (nodes rest : List ℕ) (n l m c : ℕ) (whole : length nodes ≡ nodeS
     where
       one-side : (a z : ℕ) → a + z - a ≡ z
       one-side a z = omega arith
+
+  -- A node of the table is the primitive of its kind where its shape is one.
+  pub prim-held : (k i : ℕ) → i < n → asPrim (shapeIn T k i) ≡ primitiveOf (nodeAt nodes i .kind)
+  unfolding shapeIn
+  prim-held zero i h = node-prim T (λ j. blank 0) (nodeOf T i) ∙ ap (λ (x : Node). primitiveOf (x .kind)) (node-view nodes rest n l m whole i h)
+  prim-held (suc k) i h = node-prim T (shapeIn T k) (nodeOf T i) ∙ ap (λ (x : Node). primitiveOf (x .kind)) (node-view nodes rest n l m whole i h)
 
   module _ (lengths depths : List ℕ) (to : ExtentsTo nodes rest l lengths depths n) where
     -- What is held of node i is the extent of its shape, where that of the nodes before is.
@@ -229,17 +250,11 @@ module _ (nodes rest : List ℕ) (n l m c : ℕ) (whole : length nodes ≡ nodeS
         ∙ node-is T rest l m (link-view nodes rest n l m) text-long (heldIn lengths depths) child i right nodes prims (nodeAt nodes i) (every-good nodes rest l m n good i h)
         ∙ ap (λ (x : Node). extentOf (nodeShape T child x)) (sym (node-view nodes rest n l m whole i h))
 
-    -- A node of the table is a primitive where its shape is one.
-    prim-held : (k i : ℕ) → i < n → ltb (nodeAt nodes i .kind) arrayKind ≡ some? (asPrim (shapeIn T k i))
-    unfolding shapeIn
-    prim-held zero i h = ap (λ (x : Node). ltb (x .kind) arrayKind) (sym (node-view nodes rest n l m whole i h)) ∙ node-prim T (λ j. blank 0) (nodeOf T i)
-    prim-held (suc k) i h = ap (λ (x : Node). ltb (x .kind) arrayKind) (sym (node-view nodes rest n l m whole i h)) ∙ node-prim T (shapeIn T k) (nodeOf T i)
-
     -- What is held of a node is the extent of its shape, where there are levels enough.
     held-in : (k i : ℕ) → i ≤ k → i < n → heldIn lengths depths i ≡ extentOf (shapeIn T k i)
     unfolding shapeIn
     held-in zero i p h = next-held (λ j. blank 0) i h (λ t b. absurd (omega arith)) (λ t b. absurd (omega arith))
-    held-in (suc k) i p h = next-held (shapeIn T k) i h (λ t b. held-in k t (omega arith) (omega arith)) (λ t b. prim-held k t (omega arith))
+    held-in (suc k) i p h = next-held (shapeIn T k) i h (λ t b. held-in k t (omega arith) (omega arith)) (λ t b. let h = prim-held k t (omega arith) in has-primitive (nodeAt nodes t .kind) ∙ ap some? (sym h))
 
     -- Of each node the extent of its shape is held.
     pub shapes-held : (j : ℕ) → j < n → heldIn lengths depths j ≡ extentOf (shapeOf T j)

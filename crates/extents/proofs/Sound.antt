@@ -21,8 +21,7 @@ use Rattle.meaning.specs.TableReading.{nodeSize, nameSize}
 use Rattle.meaning.specs.Table.{Node, Link, arrayKind, mapKind, recordKind, functionKind, symbolKind}
 use Rattle.tables.specs.declared.Way.{Way}
 use Rattle.tables.specs.declared.Way.the-variants.{Bare, Named, Texts}
-use Rattle.tables.specs.Places.{linkPlace, namePlace, nodeAt, linkAt, goodBy, goodFrom, goodSpan, goodAt, firstBadNode}
-use Rattle.extents.specs.Extents.{Aimed}
+use Rattle.tables.specs.Places.{linkPlace, namePlace, nodeAt, linkAt, Aimed, goodBy, goodFrom, goodSpan, goodAt, firstBadNode}
 use Rattle.tables.proofs.ByKind.{at-second, at-array, at-map, at-record, at-function, at-symbol}
 
 -- A test holds or fails.

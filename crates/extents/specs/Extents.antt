@@ -1,21 +1,20 @@
 -- How long and how deep the shapes of nodes are, up to one over their limits, as the code finds them: each node's extent from those of the nodes
 -- before it. Proved to be the extents of the shapes that the nodes stand for (proofs/Shapes.antt). No public contract cites it.
-use Prim.Native.Nat.{ℕ, zero, suc, _+_, _*_, _-_, _≤_, _<_, max, min}
+use Prim.Native.Nat.{ℕ, zero, suc, _+_, _*_, _-_, _<_, max, min}
 use mathlib.Core.Path.{_≡_}
 use mathlib.Core.List.{List}
 use mathlib.Core.Bool.{Bool, _&&_}
 use lib.Dec.{ltb, eqb}
 use lib.ListN.{length, getD}
 use Rattle.meaning.specs.Rules.{_⇒_∣_}
-use Rattle.meaning.specs.Limits.{maxBytes, maxLevels, maxNodes}
+use Rattle.meaning.specs.Limits.{maxBytes, maxLevels}
 use Rattle.meaning.specs.FirstByte.{shortBlanks}
 use Rattle.meaning.specs.Shape.{Shape, depth}
 use Rattle.meaning.specs.Encode.{encode}
 use Rattle.meaning.specs.Table.{Node, Link, arrayKind, mapKind, recordKind, functionKind, symbolKind}
-use Rattle.meaning.specs.TableReading.{nodeSize}
 use Rattle.tables.specs.declared.Way.{Way}
 use Rattle.tables.specs.declared.Way.the-variants.{Bare, Named, Texts}
-use Rattle.tables.specs.Places.{nodeAt, linkAt, nameAt}
+use Rattle.tables.specs.Places.{nodeAt, linkAt, nameAt, targetKind}
 use Rattle.extents.specs.declared.Extent.{Extent}
 
 abbrev pub extent : ℕ → ℕ → Extent
@@ -75,11 +74,7 @@ closed front e = extent (plus (e .length) front) (deeper (e .depth))
 
 -- the target of link x is a primitive
 abbrev pub primAt : List ℕ → List ℕ → ℕ → Bool
-primAt nodes rest x = ltb (nodeAt nodes (linkAt rest x .target) .kind) arrayKind
-
--- it is a node that is there
-abbrev pub Aimed : List ℕ → List ℕ → ℕ → Type 0
-Aimed nodes rest x = (linkAt rest x .target < maxNodes) × (nodeSize * linkAt rest x .target + nodeSize ≤ length nodes)
+primAt nodes rest x = ltb (targetKind nodes rest x) arrayKind
 
 -- the extent of a node
 unfoldable pub nodeExtent : (ℕ → Extent) → List ℕ → List ℕ → ℕ → Node → Extent

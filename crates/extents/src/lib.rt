@@ -18,8 +18,8 @@ ghost use mathlib.Core.Bool.{true, _&&_};
 ghost use Prim.Native.Nat.{_≤_, _<_, _+_, _*_, max};
 ghost use lib.ListN.{length};
 ghost use Rattle.meaning.specs.Limits.{maxNodes, maxLinks, maxNames};
-ghost use Rattle.tables.specs.Places.{linkPlace, namePlace, linkSaid, nodeSaid, goodBy, goodFrom, goodAt, firstBadNode};
-ghost use Rattle.extents.specs.Extents.{plus, deeper, lebSize, withText, withShape, heldIn, withLink, none, sumRun, closed, primAt, Aimed, nodeExtent, ExtentsTo};
+ghost use Rattle.tables.specs.Places.{linkPlace, namePlace, linkSaid, nodeSaid, Aimed, goodBy, goodFrom, goodAt, firstBadNode};
+ghost use Rattle.extents.specs.Extents.{plus, deeper, lebSize, withText, withShape, heldIn, withLink, none, sumRun, closed, primAt, nodeExtent, ExtentsTo};
 
 // A length that is over the limit of an encoding, and a depth that is over that of a shape.
 pub const OVER: usize = MAX_BYTES + 1;
@@ -183,9 +183,7 @@ fn prim_at(nodes: &[u8], rest: &[u8], x: usize) -> bool
     requires { ⌜ (linkPlace x + 4 ≤ length (now rest)) × (x < 65536) × Aimed (now nodes) (now rest) x ⌝ }
     ensures { λ r. ⌜ r ≡ primAt (now (nodes .entry)) (now (rest .entry)) x ⌝ }
 {
-    let link = tables::link_at(rest, x);
-    let node = tables::node_at(nodes, link.target);
-    node.kind < ARRAY
+    tables::target_kind(nodes, rest, x) < ARRAY
 }
 
 // Whether the targets of link x and of the one after it are.

@@ -3,6 +3,7 @@
 --     run-good, run-bad                 one link of those that are due, by what is judged of it
 --     node-good, node-bad, node-end     one node of those that are due, and none
 --     name-good, name-bad, name-end     one name of those that are due, and none
+--     node-within, name-within          the first that is broken is one of those that are due, or there is none
 --     name-wide, name-text              how a name is judged: by its range, and by its text
 -- Assumes nothing.
 use mathlib.Core.Path.{_≡_, sym}
@@ -110,8 +111,25 @@ module _ (rest : List ℕ) (links names text start size : ℕ) where
   name-wide h = rw (lt-ltb text (start + size) h)
 
   -- Any other is as its text is, well formed to its end or not.
-  pub name-text : {r : ℕ} → start + size ≤ text → textPlace links names + text ≤ length rest → r ≡ textPlace links names + start + wellFormed (slice (textPlace links names + start) (textPlace links names + start + size) rest) → goodName rest links names text (Meant.name start size) ≡ eqb r (textPlace links names + start + size)
+  pub name-text : {r p : ℕ} → p ≡ textPlace links names → start + size ≤ text → textPlace links names + text ≤ length rest → r ≡ p + start + wellFormed (slice (p + start) (p + start + size) rest) → goodName rest links names text (Meant.name start size) ≡ eqb r (p + start + size)
   unfolding goodName
-  name-text h k e =
+  name-text q h k e =
       let a = textPlace links names + start in
-      rw (le-ltb text (start + size) h, e) (sym (utf8-to rest a (a + size) (omega arith) (omega arith)))
+      let f = rw q at e in
+      rw (q, le-ltb text (start + size) h, f) (sym (utf8-to rest a (a + size) (omega arith) (omega arith)))
+
+-- The first node that is broken is one of those that are due, or there is none.
+pub node-within : (nodes rest : List ℕ) (links names c i : ℕ) → firstBadNode nodes rest links names c i ≤ i + c
+unfolding firstBadNode
+node-within nodes rest links names zero i = omega arith
+node-within nodes rest links names (suc c) i =
+    let h = node-within nodes rest links names c (suc i) in
+    rule (λ r. r ≤ i + suc c) (goodAt rest links names i (nodeAt nodes i)) _ _ (λ _. omega arith) λ _. omega arith
+
+-- So is the first name.
+pub name-within : (rest : List ℕ) (links names text c k : ℕ) → firstBadName rest links names text c k ≤ k + c
+unfolding firstBadName
+name-within rest links names text zero k = omega arith
+name-within rest links names text (suc c) k =
+    let h = name-within rest links names text c (suc k) in
+    rule (λ r. r ≤ k + suc c) (goodName rest links names text (nameAt rest links k)) _ _ (λ _. omega arith) λ _. omega arith

@@ -1,5 +1,5 @@
 -- The steps of the table check are what reading a table means, of n nodes and the rest.
---     layout-fits                              how long the sections of a table that is laid out are
+--     layout-fits, layout-near                 how long the sections of a table that is laid out are, and where one that is broken may be
 --     sections-broken, sections-laid           the sections, after the nodes
 --     node-view, link-view, name-view, text-view     what the table that the bytes are has at an index
 --     nodes-length, links-length, names-length, text-length     how many
@@ -14,8 +14,8 @@ use mathlib.Core.Bool.{Bool, true, false, _&&_}
 use native.Mathlib.Nat.{zero-add, suc-add}
 use native.Mathlib.Omega.{arith}
 use lib.Dec.{ltb}
-use lib.ListN.{length, getD, drop, length-append, length-drop, take-append-drop}
-use lib.Seq.{slice, drop-drop, drop-at, drop-nil, take-nil, getD-drop, length-slice}
+use lib.ListN.{length, getD, take, drop, length-append, length-drop, take-append-drop}
+use lib.Seq.{slice, take-all, drop-drop, drop-at, drop-nil, take-nil, getD-drop}
 use borrow.Author.Tests.{le-ltb, lt-ltb, le-leb, lt-leb}
 use Rattle.meaning.specs.Rules.{_⇒_∣_}
 use Rattle.meaning.specs.Limits.{maxNodes, maxLinks, maxNames, maxText}
@@ -85,28 +85,46 @@ pub record Fits (rest : List ℕ) (l m c : ℕ) : Type 0 where
   pub text-few : c ≤ maxText
   pub ends : length rest ≡ textPlace l m + c
 
--- A layout that a section leads to has the section whole.
-by-section : {P : Type 0} (rest : List ℕ) (at most size : ℕ) (go : ℕ → ℕ → Layout) {l m c : ℕ} → afterSection at (sectionOf rest at most size) go ≡ Laid l m c → ((count : ℕ) → count ≤ most → at + countSize + size * count ≤ length rest → go count (at + countSize + size * count) ≡ Laid l m c → P) → P
-by-section {P} rest at most size go {l} {m} {c} h k = with-section (sectionOf rest at most size) refl h
+-- A layout that a section leads to is broken there, or has the section whole.
+by-section : {P : Type 0} (rest : List ℕ) (at most size : ℕ) (go : ℕ → ℕ → Layout) {r : Layout} → afterSection at (sectionOf rest at most size) go ≡ r → (Broken at ≡ r → P) → ((count : ℕ) → count ≤ most → at + countSize + size * count ≤ length rest → go count (at + countSize + size * count) ≡ r → P) → P
+by-section {P} rest at most size go {r} h b k = with-section (sectionOf rest at most size) refl h
   where
-    with-section : (s : Section) → sectionOf rest at most size ≡ s → afterSection at s go ≡ Laid l m c → P
+    with-section : (s : Section) → sectionOf rest at most size ≡ s → afterSection at s go ≡ r → P
     with-section (section.Whole count end) e h =
         let d = section-ended rest at most size count end e in
         k count (d .few) (rw (← d .after) (d .inside)) (rw (← d .after) h)
-    with-section section.Broken e h = let z : _≡_ {A = ℕ} 0 1 = cc in absurd (omega arith)
+    with-section section.Broken e h = b h
+
+-- A layout that is broken is not laid out.
+not-laid : {P : Type 0} {p l m c : ℕ} → Broken p ≡ Laid l m c → P
+not-laid h = let z : _≡_ {A = ℕ} 0 1 = cc in absurd (omega arith)
 
 -- Sections that are laid out are within their limits and end where the rest does.
 pub layout-fits : (rest : List ℕ) (l m c : ℕ) → layoutAt rest ≡ Laid l m c → Fits rest l m c
 unfolding layoutAt
 layout-fits rest l m c h =
-    by-section rest 0 maxLinks linkSize _ h λ l' f i h.
-    by-section rest (linkPlace l') maxNames nameSize _ h λ m' f' i' h.
-    by-section rest (namePlace l' m') maxText 1 _ h λ c' f'' i'' h.
+    by-section rest 0 maxLinks linkSize _ h (λ b. not-laid b) λ l' f i h.
+    by-section rest (linkPlace l') maxNames nameSize _ h (λ b. not-laid b) λ m' f' i' h.
+    by-section rest (namePlace l' m') maxText 1 _ h (λ b. not-laid b) λ c' f'' i'' h.
     cases (ltb (textPlace l' m' + 1 * c') (length rest))
-    (λ t. let g = rw t at h in let z : _≡_ {A = ℕ} 0 1 = cc in absurd (omega arith))
+    (λ t. not-laid (rw t at h))
     λ t. let g = rw t at h in
     let p : l' ≡ l = cc in let q : m' ≡ m = cc in let r : c' ≡ c = cc in
     record { links-few = omega arith; names-few = omega arith; text-few = omega arith; ends = omega (arith, facts) }
+
+-- A broken layout is broken near the front.
+pub layout-near : (rest : List ℕ) (p : ℕ) → layoutAt rest ≡ Broken p → p ≤ textPlace maxLinks maxNames + maxText
+unfolding layoutAt
+layout-near rest p h =
+    by-section rest 0 maxLinks linkSize _ h (λ b. at 0 b (omega arith)) λ l f i h.
+    by-section rest (linkPlace l) maxNames nameSize _ h (λ b. at (linkPlace l) b (omega arith)) λ m f' i' h.
+    by-section rest (namePlace l m) maxText 1 _ h (λ b. at (namePlace l m) b (omega arith)) λ c f'' i'' h.
+    cases (ltb (textPlace l m + 1 * c) (length rest))
+    (λ t. at (textPlace l m + 1 * c) (rw t at h) (omega arith))
+    λ t. not-laid (sym (rw t at h))
+  where
+    at : (q : ℕ) → Broken q ≡ Broken p → q ≤ textPlace maxLinks maxNames + maxText → p ≤ textPlace maxLinks maxNames + maxText
+    at q e k = let z : q ≡ p = cc in omega arith
 
 -- A node's entry, and those after it.
 nodes-step : (c : ℕ) (w : List ℕ) → 2 ≤ length w → nodesIn (suc c) w ≡ nodeAt w 0 ∷ nodesIn c (drop nodeSize w)
@@ -424,15 +442,14 @@ table-past (x ∷ y ∷ w) h =
     cases (ltb maxNodes (ofTwo x y)) (λ u. rw (t, u)) λ u.
     rw (t, u, lt-ltb (length w) (nodeSize * ofTwo x y) (omega arith)))
 
--- Else the bytes are the count, the nodes and the rest.
-pub table-split : (w : List ℕ) → ((i : ℕ) → getD w i 0 < 256) → linksPlace (numberAt w 0) ≤ length w
-    → (w ≡ twoBytes (numberAt w 0) ++ (slice countSize (linksPlace (numberAt w 0)) w ++ drop (linksPlace (numberAt w 0)) w))
-    × (length (slice countSize (linksPlace (numberAt w 0)) w) ≡ nodeSize * numberAt w 0)
-table-split [] b h = absurd (omega arith)
-table-split (x ∷ []) b h = absurd (omega arith)
-table-split (x ∷ y ∷ w) b h =
-    let n = ofTwo x y in
+-- Else the bytes are the count, the nodes and the rest, each lent as a part.
+pub table-split : (w : List ℕ) (n : ℕ) → ((i : ℕ) → getD w i 0 < 256) → n ≡ numberAt w 0 → linksPlace n ≤ length w
+    → twoBytes n ++ (take (linksPlace n - countSize) (drop countSize w) ++ take (length w - linksPlace n) (drop (linksPlace n) w)) ≡ w
+table-split [] n b e h = absurd (omega arith)
+table-split (x ∷ []) n b e h = absurd (omega arith)
+table-split (x ∷ y ∷ w) n b e h =
     let i = b 0 in let j = b 1 in
     let low : n % 256 ≡ x = omega arith in let high : n / 256 ≡ y = omega arith in
-    let e : linksPlace n ≡ suc (suc (nodeSize * n)) = omega arith in
-    (rw (low, high, e, take-append-drop (nodeSize * n) w), omega (arith, length-slice countSize (linksPlace n) (x ∷ y ∷ w) h))
+    let p : linksPlace n ≡ suc (suc (nodeSize * n)) = omega arith in let q : suc (suc (nodeSize * n)) - 2 ≡ nodeSize * n = omega arith in
+    let l = length-drop (nodeSize * n) w in
+    rw (low, high, p, q, take-all (suc (suc (length w)) - suc (suc (nodeSize * n))) (drop (nodeSize * n) w) (omega arith), take-append-drop (nodeSize * n) w)

@@ -1,13 +1,13 @@
 -- NOT TO BE BELIEVED: proved to be what reading a table means (proofs/Whole.antt). 01-scope.md, "Node table", once more, as the code goes: by
 -- places in the bytes of the nodes and in the rest of the table, from the links' count on.
-use Prim.Native.Nat.{ℕ, zero, suc, _+_, _*_, _-_}
+use Prim.Native.Nat.{ℕ, zero, suc, _+_, _*_, _-_, _≤_, _<_}
 use mathlib.Core.List.{List}
 use mathlib.Core.Bool.{Bool, true, false, not, _&&_}
 use lib.Dec.{ltb, leb, eqb}
 use lib.ListN.{length, getD, drop}
 use lib.Seq.{slice}
 use Rattle.meaning.specs.Rules.{_⇒_∣_}
-use Rattle.meaning.specs.Limits.{maxLinks, maxNames, maxText}
+use Rattle.meaning.specs.Limits.{maxNodes, maxLinks, maxNames, maxText}
 use Rattle.meaning.specs.Utf8.{utf8}
 use Rattle.meaning.specs.SheetReading.{countSize, numberAt}
 use Rattle.meaning.specs.Table as Meant
@@ -77,6 +77,13 @@ linkAt rest x = Meant.link (numberAt rest (linkPlace x)) (numberAt rest (linkPla
 
 abbrev pub nameAt : List ℕ → ℕ → ℕ → Meant.Name
 nameAt rest links k = Meant.name (numberAt rest (namePlace links k)) (numberAt rest (namePlace links k + countSize))
+
+-- the kind of the node that is the target of link x, where that node is there
+abbrev pub targetKind : List ℕ → List ℕ → ℕ → ℕ
+targetKind nodes rest x = nodeAt nodes (linkAt rest x .target) .kind
+
+abbrev pub Aimed : List ℕ → List ℕ → ℕ → Type 0
+Aimed nodes rest x = (linkAt rest x .target < maxNodes) × (nodeSize * linkAt rest x .target + nodeSize ≤ length nodes)
 
 abbrev pub nodeSaid : Node → Meant.Node
 nodeSaid n = record { kind = n .kind; second = n .second; a = n .a; b = n .b }

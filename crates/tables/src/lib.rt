@@ -8,7 +8,7 @@ ghost use Prim.Native.Nat.{_≤_, _<_, _+_, _*_};
 ghost use lib.ListN.{length};
 ghost use Rattle.meaning.specs.Limits.{maxNodes, maxLinks, maxNames, maxText};
 ghost use Rattle.meaning.specs.TableReading.{nodeSize, linkSize, nameSize};
-ghost use Rattle.tables.specs.Places.{linkPlace, namePlace, textPlace, sectionOf, layoutAt, nodeSaid, nodeAt, linkSaid, linkAt, nameSaid, nameAt, goodBy, goodFrom, goodSpan, goodAt, firstBadNode, firstBadName};
+ghost use Rattle.tables.specs.Places.{linkPlace, namePlace, textPlace, sectionOf, layoutAt, nodeSaid, nodeAt, linkSaid, linkAt, targetKind, Aimed, nameSaid, nameAt, goodBy, goodFrom, goodSpan, goodAt, firstBadNode, firstBadName};
 
 // A count has two bytes, as has every number of a table but kinds.
 pub const COUNT_SIZE: usize = 2;
@@ -145,6 +145,16 @@ pub fn link_at(rest: &[u8], x: usize) -> Link
         target: leaves::two_at(rest, at),
         name: leaves::two_at(rest, at + COUNT_SIZE),
     }
+}
+
+// The kind of the node that is the target of link x.
+pub fn target_kind(nodes: &[u8], rest: &[u8], x: usize) -> u8
+    requires { ⌜ (linkPlace x + linkSize ≤ length (now rest)) × (x < 65536) × Aimed (now nodes) (now rest) x ⌝ }
+    ensures { λ r. ⌜ r ≡ targetKind (now (nodes .entry)) (now (rest .entry)) x ⌝ }
+{
+    let link = link_at(rest, x);
+    let node = node_at(nodes, link.target);
+    node.kind
 }
 
 // A name: where it starts in the text, and how long it is.
@@ -284,12 +294,20 @@ pub fn bad_node(nodes: &[u8], rest: &[u8], count: usize, links: usize, names: us
     i
 }
 
+// Where the text starts in the rest, after so many links and names.
+pub fn text_from(links: usize, names: usize) -> usize
+    requires { ⌜ (links ≤ maxLinks) × (names ≤ maxNames) ⌝ }
+    ensures { λ r. ⌜ r ≡ textPlace links names ⌝ }
+{
+    COUNT_SIZE + LINK_SIZE * links + COUNT_SIZE + NAME_SIZE * names + COUNT_SIZE
+}
+
 // The first name that is broken; how many there are, where none is.
 pub fn bad_name(rest: &[u8], links: usize, names: usize, text: usize) -> usize
     requires { ⌜ (links ≤ maxLinks) × (names ≤ maxNames) × (text ≤ maxText) × (textPlace links names + text ≤ length (now rest)) ⌝ }
     ensures { λ r. ⌜ r ≡ firstBadName (now (rest .entry)) links names text names 0 ⌝ }
 {
-    let from = COUNT_SIZE + LINK_SIZE * links + COUNT_SIZE + NAME_SIZE * names + COUNT_SIZE;
+    let from = text_from(links, names);
     let mut k = 0;
     while k < names {
         let name = name_at(rest, links, k);

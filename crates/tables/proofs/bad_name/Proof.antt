@@ -19,22 +19,22 @@ abbrev μ-loop : tie.MeasureT-loop
 
 returns : tie.Need-returns Inv-loop μ-loop
 returns c =
-    let n = c .before in let l = n .before .before in let a = l .before .before .args in
+    let n = c .before in let l = n .before .before in let a = l .before .before .before .args in
     sym (l .loop .inv .1 ∙ name-bad (a .rest .now) (a .links) (a .names) (a .text) (a .names) (l .loop .k) (omega arith) (n .name-at .ensures .0) (name-wide (a .rest .now) (a .links) (a .names) (a .text) _ _ (c .if1 .taken)))
 
 loop-again : tie.Need-loop-again Inv-loop μ-loop
 loop-again c =
-    let w = c .before in let n = w .before .before in let l = n .before .before in let a = l .before .before .args in
-    (omega arith, l .loop .inv .1 ∙ name-good (a .rest .now) (a .links) (a .names) (a .text) (a .names) (l .loop .k) (omega arith) (n .name-at .ensures .0) (name-text (a .rest .now) (a .links) (a .names) (a .text) _ _ (omega arith) (omega arith) (w .well-formed-to .ensures) ∙ eq-eqb _ _ (c .if2 .taken)))
+    let w = c .before in let n = w .before .before in let l = n .before .before in let a = l .before .before .before .args in
+    (omega arith, l .loop .inv .1 ∙ name-good (a .rest .now) (a .links) (a .names) (a .text) (a .names) (l .loop .k) (omega arith) (n .name-at .ensures .0) (name-text (a .rest .now) (a .links) (a .names) (a .text) _ _ (l .before .text-from .ensures) (omega arith) (omega arith) (w .well-formed-to .ensures) ∙ eq-eqb _ _ (c .if2 .taken)))
 
 returns-2 : tie.Need-returns-2 Inv-loop μ-loop
 returns-2 c =
-    let w = c .before in let n = w .before .before in let l = n .before .before in let a = l .before .before .args in
-    sym (l .loop .inv .1 ∙ name-bad (a .rest .now) (a .links) (a .names) (a .text) (a .names) (l .loop .k) (omega arith) (n .name-at .ensures .0) (name-text (a .rest .now) (a .links) (a .names) (a .text) _ _ (omega arith) (omega arith) (w .well-formed-to .ensures) ∙ ne-eqb _ _ (c .if2 .left)))
+    let w = c .before in let n = w .before .before in let l = n .before .before in let a = l .before .before .before .args in
+    sym (l .loop .inv .1 ∙ name-bad (a .rest .now) (a .links) (a .names) (a .text) (a .names) (l .loop .k) (omega arith) (n .name-at .ensures .0) (name-text (a .rest .now) (a .links) (a .names) (a .text) _ _ (l .before .text-from .ensures) (omega arith) (omega arith) (w .well-formed-to .ensures) ∙ ne-eqb _ _ (c .if2 .left)))
 
 returns-3 : tie.Need-returns-3 Inv-loop μ-loop
 returns-3 c =
-    let l = c .before in let a = l .before .before .args in
+    let l = c .before in let a = l .before .before .before .args in
     sym (l .loop .inv .1 ∙ name-end (a .rest .now) (a .links) (a .names) (a .text) (a .names) (l .loop .k) (omega arith))
 
 pub bad-name-spec : {M : Type 1} → statement M
@@ -43,12 +43,7 @@ bad-name-spec =
     (tie.spec
     Inv-loop
     μ-loop
-    (λ c. search needs)
-    (λ c. search needs)
-    (λ c. search needs)
-    (λ c. search needs)
-    (λ c. search needs)
-    (λ c. search needs)
+    (λ c κs. search needs)
     (λ c. (omega arith, rw sub-zero))
     (λ c κs. search needs)
     (λ c. search needs)
