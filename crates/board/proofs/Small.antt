@@ -3,7 +3,7 @@
 --     exported-child     of a child
 --     exported-name      of a name
 --     exported-sheet     of a sheet
---     exported-made      of fill and join
+--     exported-made      of fill, join, the writer and the way back
 -- Assumes nothing.
 use Prim.Native.Nat.{ℕ, _≤_, _<_}
 use mathlib.Core.Path.{_≡_, refl}
@@ -82,7 +82,7 @@ abbrev madePut : Made → Answer
 madePut (made.Written length) = answered 0 length 0
 madePut (made.Refused number place) = refused number place
 
--- What a fill or a joining says, small as it is, is what `shiulbart_fill` and `shiulbart_join` say.
+-- What a call that writes says, small as it is, is what its exported call says.
 pub exported-made : (a : Meant.Answer) → Small a → Given (madePut (madeSaid a)) (madeAnswer a)
 exported-made (Meant.answered w) h = given _ (omega arith) (omega arith) (omega arith) (omega arith)
 exported-made (Meant.refused number place) h = given-refusal number place (h .0) (h .1)

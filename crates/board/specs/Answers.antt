@@ -48,7 +48,7 @@ abbrev pub sheetAnswer : Reading Sheet → Answer
 sheetAnswer (got σ left) = answered 0 (length (encodings σ)) (length σ)
 sheetAnswer (bad number place) = refused number place
 
--- `shiulbart_fill` and `shiulbart_join`: how many bytes were written, or the refusal
+-- `shiulbart_fill`, `shiulbart_join`, `shiulbart_write` and `shiulbart_table`: how many bytes were written, or the refusal
 abbrev pub madeAnswer : Meant.Answer → Answer
 madeAnswer (Meant.answered w) = answered 0 (length w) 0
 madeAnswer (Meant.refused number place) = refused number place

@@ -11,7 +11,7 @@ ghost use lib.ListN.{length};
 ghost use Rattle.meaning.specs.Refusals.{sheetBroken};
 ghost use Rattle.meaning.specs.Reading.{reading};
 ghost use Rattle.meaning.specs.SheetReading.{readSheet};
-ghost use Rattle.meaning.specs.Answers.{fillAnswer, joinAnswer, bufferAfter};
+ghost use Rattle.meaning.specs.Answers.{fillAnswer, joinAnswer, writeAnswer, tableAnswer, bufferAfter};
 ghost use Rattle.board.specs.Answers.{answered, refused, readAnswer, childAnswer, nameAnswer, sheetAnswer, madeAnswer};
 
 // What every call says. Number 0 is an answer; otherwise number and place are the paper's. A field that a call does not use is 0.
@@ -113,6 +113,30 @@ pub extern "C" fn shiulbart_join(first: &[u8], second: &[u8], out: &mut [u8]) ->
     ensures buffer { λ _. ⌜ now (out .exit) ≡ bufferAfter (now (out .entry)) (joinAnswer (now (first .entry)) (now (second .entry)) (length (now (out .entry)))) ⌝ }
 {
     match joins::join(first, second, out) {
+        Made::Refused { number, place } => refusal_of(number, place),
+        Made::Written { length } => answer_of(0, length, 0),
+    }
+}
+
+// Writes the encoding of what a node table means, into the front of a lent buffer: how many bytes were written as length, or the refusal.
+#[no_mangle]
+pub extern "C" fn shiulbart_write(table: &[u8], out: &mut [u8]) -> Answer
+    ensures is { λ r. ⌜ r ≡ madeAnswer (writeAnswer (now (table .entry)) (length (now (out .entry)))) ⌝ }
+    ensures buffer { λ _. ⌜ now (out .exit) ≡ bufferAfter (now (out .entry)) (writeAnswer (now (table .entry)) (length (now (out .entry)))) ⌝ }
+{
+    match writer::write(table, out) {
+        Made::Refused { number, place } => refusal_of(number, place),
+        Made::Written { length } => answer_of(0, length, 0),
+    }
+}
+
+// Makes the node table of an encoding, in the front of a lent buffer: how many bytes were written as length, or the refusal.
+#[no_mangle]
+pub extern "C" fn shiulbart_table(bytes: &[u8], out: &mut [u8]) -> Answer
+    ensures is { λ r. ⌜ r ≡ madeAnswer (tableAnswer (now (bytes .entry)) (length (now (out .entry)))) ⌝ }
+    ensures buffer { λ _. ⌜ now (out .exit) ≡ bufferAfter (now (out .entry)) (tableAnswer (now (bytes .entry)) (length (now (out .entry)))) ⌝ }
+{
+    match way_back::to_table(bytes, out) {
         Made::Refused { number, place } => refusal_of(number, place),
         Made::Written { length } => answer_of(0, length, 0),
     }

@@ -1,0 +1,111 @@
+-- Laws of the entries of a table (specs/Pieces.antt), as they are written.
+--     node-wrote     a node's kind, zero and two numbers are its entry
+--     pair-wrote     two numbers, written one after the other
+--     text-length    how long a name's text is
+--     text-wrote     the bytes of a name from its text's start on are its text
+--     item-bare      the item of a kind without names is a bare link
+--     array-bytes, map-bytes     an Array and a Map of primitives, entry by entry
+--     own-bytes, items-count     a list's node after the entries for its items, of which there are as many as the list has
+--     short-blank, short-prim, short-array, short-map     a shape of one byte, by its byte
+-- Assumes nothing.
+use mathlib.Core.Path.{_≡_, refl, _∙_}
+use mathlib.Core.Bool.{true, false}
+use mathlib.Core.List.{List, [], _∷_, _++_, append-assoc}
+use Prim.Native.Nat.{ℕ, _+_, _-_, _/_, _%_, _≤_, _<_}
+use native.Mathlib.Nat.{add-zero, zero-add}
+use native.Mathlib.Omega.{arith}
+use lib.ListN.{length, length-drop}
+use lib.Seq.{slice, take-length, drop-nil}
+use borrow.Author.Tests.{lt-ltb, le-ltb}
+use Rattle.meaning.specs.Numbers.{twoBytes}
+use Rattle.meaning.specs.FirstByte.{shortBlanks, primByte, arrayByte, mapByte}
+use Rattle.meaning.specs.Table.{arrayKind, mapKind, variableKind}
+use Rattle.leaves.specs.Written.{written}
+use Rattle.reader.specs.Walk.{named, shaped}
+use Rattle.reader.specs.declared.first.Kind.{Kind}
+use Rattle.reader.specs.declared.first.Kind.the-variants.{Array, Map}
+use Rattle.way_back.specs.declared.counts.Counts.{Counts}
+use Rattle.way_back.specs.declared.counts.Section.{Section}
+use Rattle.way_back.specs.declared.counts.Section.the-variants.{Nodes, Links, Names, Text}
+use Rattle.way_back.specs.Pieces.{plus, textFrom, textIn, kindNumber, nodeEntry, itemEntry, bareEntry, single, Gathered, noItems, ownBytes, listPiece, packedArray, packedMap, shortPiece, inner}
+use Rattle.way_back.specs.Puts.{Wrote, itemsAt}
+use Rattle.way_back.proofs.Wrote.{wrote-after}
+use Rattle.way_back.proofs.Grows.{counted}
+
+-- A node's kind, zero and two numbers, written one after the other, are its entry.
+pub node-wrote : (d e f g o : List ℕ) (to kind a b : ℕ) → to + 6 ≤ length d
+    → e ≡ written d to (kind ∷ []) → f ≡ written e (to + 1) (0 ∷ []) → g ≡ written f (to + 2) (twoBytes a) → o ≡ written g (to + 4) (twoBytes b)
+    → Wrote d o to (nodeEntry Nodes kind a b) (to + 6)
+node-wrote d e f g o to kind a b room p q r s =
+    let one : Wrote d e to (kind ∷ []) (to + 1) = record { after = omega arith; wrote = p } in
+    let two : Wrote e f (to + 1) (0 ∷ []) (to + 2) = record { after = omega arith; wrote = q } in
+    let four : Wrote f g (to + 2) (twoBytes a) (to + 4) = record { after = omega arith; wrote = r } in
+    let six : Wrote g o (to + 4) (twoBytes b) (to + 6) = record { after = omega arith; wrote = s } in
+    wrote-after (omega arith) (wrote-after (omega arith) (wrote-after (omega arith) one two) four) six
+
+-- Two numbers, written one after the other.
+pub pair-wrote : (d e f : List ℕ) (to m n : ℕ) → to + 4 ≤ length d → e ≡ written d to (twoBytes m) → f ≡ written e (to + 2) (twoBytes n)
+    → Wrote d f to (twoBytes m ++ twoBytes n) (to + 4)
+pair-wrote d e f to m n room p q =
+    let two : Wrote d e to (twoBytes m) (to + 2) = record { after = omega arith; wrote = p } in
+    let four : Wrote e f (to + 2) (twoBytes n) (to + 4) = record { after = omega arith; wrote = q } in
+    wrote-after (omega arith) two four
+
+-- A name's text is as long as what the name has from the text's start on.
+pub text-length : (w : List ℕ) (n : ℕ) → n ≡ textFrom w → length (textIn w) ≡ length w - n
+text-length w n e = rw (← e, length-drop)
+
+-- The bytes of a name from its text's start on are its text.
+pub text-wrote : (d e w : List ℕ) (to n : ℕ) → n ≡ textFrom w → e ≡ written d to (slice n (length w) w) → Wrote d e to (textIn w) (to + (length w - n))
+text-wrote d e w to n h p = record { after = rw (text-length w n h); wrote = rw (← h) (rw take-length at p) }
+
+-- The item of a kind without names is a bare link.
+item-bare : (section : Section) (kind : Kind) (m n k start : ℕ) → shaped kind ≡ true → named kind ≡ false → m ≡ n
+    → itemEntry section kind m k start (textIn []) ≡ bareEntry section n
+item-bare Nodes kind m n k start p q e = refl
+item-bare Links kind m n k start p q e = rw (p, q, e)
+item-bare Names kind m n k start p q e = rw q
+item-bare Text kind m n k start p q e = drop-nil (textFrom [])
+
+module _ (section : Section) (base : Counts) where
+  -- An Array of a primitive is the primitive's node, a link to it, and the Array's node.
+  pub array-bytes : (p : ℕ) → listPiece Array (packedArray p) .bytes section base
+      ≡ nodeEntry section p 0 0 ++ (bareEntry section (base .nodes) ++ nodeEntry section arrayKind (base .links) 1)
+  array-bytes p = rw (item-bare section Array (base .nodes + 1 - 1) (base .nodes) _ _ refl refl (omega arith), add-zero (base .links))
+
+  -- A Map of two primitives is their nodes, a link to each, and the Map's node.
+  pub map-bytes : (p q : ℕ) → listPiece Map (packedMap p q) .bytes section base
+      ≡ nodeEntry section p 0 0 ++ (nodeEntry section q 0 0 ++ (bareEntry section (base .nodes) ++ (bareEntry section (base .nodes + 1) ++ nodeEntry section mapKind (base .links) 2)))
+  map-bytes p q =
+      rw (item-bare section Map (base .nodes + 1 - 1) (base .nodes) _ _ refl refl (omega arith), item-bare section Map (base .nodes + 2 - 1) (base .nodes + 1) _ _ refl refl (omega arith), add-zero (base .links))
+      (simp append-assoc)
+
+-- A list's node stands after the entries for its items.
+pub own-bytes : (section : Section) (kind : Kind) (a : Gathered) (base after : Counts) (number count : ℕ) → after ≡ plus base (a .counts) → number ≡ kindNumber kind → a .items ≡ count
+    → ownBytes section kind a base ≡ a .own section kind base after ++ nodeEntry section number (after .links) count
+own-bytes section kind a base after number count e n i = rw (e, n, ← i)
+
+-- The items of a list are as many as it has.
+pub items-count : (left : ℕ) (kind : Kind) (count : ℕ) (s : List ℕ) (from : ℕ) → itemsAt left kind count s from .made .items ≡ count
+items-count left kind count s from = counted (inner left kind) kind s count from noItems ∙ zero-add count
+
+module _ (b : ℕ) where
+  -- A short blank is one node.
+  pub short-blank : b < shortBlanks → shortPiece b ≡ single variableKind b 0
+  unfolding shortPiece
+  short-blank h = rw (lt-ltb b shortBlanks h)
+
+  -- So is a primitive.
+  pub short-prim : shortBlanks ≤ b → b < arrayByte 0 → shortPiece b ≡ single (b - primByte 0) 0 0
+  unfolding shortPiece
+  short-prim h k = rw (le-ltb b shortBlanks h, lt-ltb b (arrayByte 0) k)
+
+  -- A packed Array is that of a primitive.
+  pub short-array : arrayByte 0 ≤ b → b < mapByte 0 0 → shortPiece b ≡ listPiece Array (packedArray (b - arrayByte 0))
+  unfolding shortPiece
+  short-array h k = rw (le-ltb b shortBlanks (omega arith), le-ltb b (arrayByte 0) h, lt-ltb b (mapByte 0 0) k)
+
+  -- A packed Map is that of two primitives.
+  pub short-map : mapByte 0 0 ≤ b → shortPiece b ≡ listPiece Map (packedMap ((b - mapByte 0 0) / 5) ((b - mapByte 0 0) % 5))
+  unfolding shortPiece
+  short-map h = rw (le-ltb b shortBlanks (omega arith), le-ltb b (arrayByte 0) (omega arith), le-ltb b (mapByte 0 0) h)

@@ -1,0 +1,481 @@
+// The way back: from an encoding to the node table of its shape (01-scope.md, "Node table"). Nothing is shared: children first, then the node. The
+// entries are counted first, so a refusal has written nothing; then each section is written by a pass of its own.
+pub mod counts;
+
+use counts::Counts;
+use counts::Section;
+use counts::count_at;
+use counts::count_inner;
+use counts::count_items;
+use counts::no_counts;
+use counts::plus;
+use leaves::buffer::Made;
+use leaves::buffer::put_byte;
+use leaves::buffer::put_part;
+use leaves::buffer::put_two;
+use leaves::limits::MAX_LEVELS;
+use leaves::refusals::BUFFER_SHORT;
+use parts::HEAD_SIZE;
+use parts::LONG_BLANK;
+use reader::Judgement;
+use reader::first::First;
+use reader::first::Kind;
+use reader::first::PACKED;
+use reader::first::PACKED_MAPS;
+use reader::first::PRIMITIVES;
+use reader::first::SHORT_BLANKS;
+use tables::ARRAY;
+use tables::COUNT_SIZE;
+use tables::FUNCTION;
+use tables::LINK_SIZE;
+use tables::MAP;
+use tables::NAME_SIZE;
+use tables::NODE_SIZE;
+use tables::RECORD;
+use tables::SYMBOL;
+use tables::VARIABLE;
+ghost use mathlib.Core.Path.{_≡_};
+ghost use mathlib.Core.Bool.{false};
+ghost use Prim.Native.Nat.{_≤_, _<_, _+_, _-_};
+ghost use lib.ListN.{length};
+ghost use mathlib.Core.List.{_++_};
+ghost use Rattle.meaning.specs.Rules.{_⇒_∣_};
+ghost use Rattle.meaning.specs.Limits.{maxLevels};
+ghost use Rattle.meaning.specs.Numbers.{twoBytes};
+ghost use Rattle.meaning.specs.Answers.{tableAnswer, bufferAfter};
+ghost use Rattle.leaves.specs.Said.{madeSaid};
+ghost use Rattle.reader.specs.declared.first.First.the-variants.{Long};
+ghost use Rattle.reader.specs.declared.first.Kind.the-variants.{Array, Map};
+ghost use Rattle.reader.specs.Walk.{shaped};
+ghost use Rattle.parts.specs.Steps.{firstAt};
+ghost use Rattle.parts.specs.Pass.{passItems, passShape};
+ghost use Rattle.way_back.specs.Pieces.{none, plus, Few, textIn, kindNumber, nodeEntry, linkEntry, nameEntry, itemEntry, bareEntry, noItems, packedArray, packedMap, ownBytes, listPiece, shortPiece, symbolPiece, pieces};
+ghost use Rattle.way_back.specs.Puts.{FewOwn, itemsAt, Wrote, Room, Linked, tableSize, sections};
+
+// The number of a kind in a table.
+fn kind_number(kind: Kind) -> u8
+    ensures { λ r. ⌜ r ≡ kindNumber kind ⌝ }
+{
+    match kind {
+        Kind::Array => ARRAY,
+        Kind::Map => MAP,
+        Kind::Record => RECORD,
+        Kind::Function => FUNCTION,
+        Kind::Symbol => SYMBOL,
+        Kind::Variable => VARIABLE,
+    }
+}
+
+// What a section gets of a node. The place after it.
+fn put_node(section: Section, kind: u8, a: usize, b: usize, out: &mut [u8], to: usize) -> usize
+    requires { ⌜ (a < 65536) × (b < 65536) × Room (length (now out)) to (nodeEntry section kind a b) ⌝ }
+    ensures { λ r. ⌜ Wrote (now (out .entry)) (now (out .exit)) to (nodeEntry section kind a b) r ⌝ }
+{
+    match section {
+        Section::Nodes => {
+            put_byte(out, to, kind);
+            put_byte(out, to + 1, 0);
+            put_two(out, to + 2, a);
+            put_two(out, to + 4, b);
+            to + NODE_SIZE
+        }
+        Section::Links => to,
+        Section::Names => to,
+        Section::Text => to,
+    }
+}
+
+// A number, if something is so, or 0.
+fn number_if(so: bool, n: usize) -> usize
+    ensures is { λ r. ⌜ r ≡ (so ⇒ n ∣ λ _. 0) ⌝ }
+    ensures within { λ r. ⌜ r ≤ n ⌝ }
+{
+    if so {
+        return n;
+    }
+    0
+}
+
+// A link of a node of a kind: to a target, unless it is a Symbol's, with name k, if its kind has names. The place after it.
+fn put_link(kind: Kind, target: usize, k: usize, out: &mut [u8], to: usize) -> usize
+    requires { ⌜ (target < 65536) × (k < 65536) × Room (length (now out)) to (linkEntry kind target k) ⌝ }
+    ensures { λ r. ⌜ Wrote (now (out .entry)) (now (out .exit)) to (linkEntry kind target k) r ⌝ }
+{
+    let shaped = reader::payload::shaped_kind(kind);
+    let named = reader::payload::named_kind(kind);
+    put_two(out, to, number_if(shaped, target));
+    put_two(out, to + 2, number_if(named, k));
+    to + LINK_SIZE
+}
+
+// A name of a node of a kind, if it has names: where its text starts and how long it is. The place after it.
+fn put_name(kind: Kind, start: usize, size: usize, out: &mut [u8], to: usize) -> usize
+    requires { ⌜ (start < 65536) × (size < 65536) × Room (length (now out)) to (nameEntry kind start size) ⌝ }
+    ensures { λ r. ⌜ Wrote (now (out .entry)) (now (out .exit)) to (nameEntry kind start size) r ⌝ }
+{
+    if reader::payload::named_kind(kind) {
+        put_two(out, to, start);
+        put_two(out, to + 2, size);
+        return to + NAME_SIZE;
+    }
+    to
+}
+
+// What a section gets of an item of a node's list, where w are the bytes of its name. The place after it.
+fn put_item(
+    section: Section,
+    kind: Kind,
+    target: usize,
+    k: usize,
+    start: usize,
+    w: &[u8],
+    out: &mut [u8],
+    to: usize,
+) -> usize
+    requires { ⌜ (target < 65536) × (k < 65536) × (start < 65536) × (length (now w) < 65536) × Room (length (now out)) to (itemEntry section kind target k start (textIn (now w))) ⌝ }
+    ensures { λ r. ⌜ Wrote (now (out .entry)) (now (out .exit)) to (itemEntry section kind target k start (textIn (now (w .entry)))) r ⌝ }
+{
+    let from = counts::text_from(w);
+    let size = w.len() - from;
+    match section {
+        Section::Nodes => to,
+        Section::Links => put_link(kind, target, k, out, to),
+        Section::Names => put_name(kind, start, size, out, to),
+        Section::Text => {
+            put_part(out, to, w, from, w.len());
+            to + size
+        }
+    }
+}
+
+// The number before, or 0.
+fn before(n: usize) -> usize
+    ensures { λ r. ⌜ r ≡ n - 1 ⌝ }
+{
+    if n == 0 {
+        return 0;
+    }
+    n - 1
+}
+
+// The entries that a list's node has for its items. So many entries are there before the list, and so many after its shapes. The place after them.
+fn put_own(
+    section: Section,
+    s: &[u8],
+    from: usize,
+    left: usize,
+    kind: Kind,
+    count: usize,
+    base: Counts,
+    after: Counts,
+    out: &mut [u8],
+    first: usize,
+) -> usize
+    requires { ⌜ (from ≤ length (now s)) × (length (now s) < 65536) × (left ≤ maxLevels) × (count ≤ 16384) × FewOwn base after (itemsAt left kind count (now s) from .made) × Room (length (now out)) first (itemsAt left kind count (now s) from .made .own section kind base after) ⌝ }
+    ensures { λ r. ⌜ Wrote (now (out .entry)) (now (out .exit)) first (itemsAt left kind count (now (s .entry)) from .made .own section kind base after) r ⌝ }
+{
+    let mut at = from;
+    let mut to = first;
+    let mut nodes = 0;
+    let mut text = 0;
+    let mut k = 0;
+    let mut due = count;
+    while 0 < due {
+        due -= 1;
+        let start = parts::past_name(s, at, kind);
+        let part = count_inner(s, start, left, kind);
+        nodes += part.counts.nodes;
+        let w = &s[at..start];
+        to = put_item(
+            section,
+            kind,
+            before(base.nodes + nodes),
+            after.names + k,
+            after.text + text,
+            w,
+            out,
+            to,
+        );
+        text += counts::text_size(w);
+        k += 1;
+        at = part.next;
+    }
+    to
+}
+
+// What a section gets of a list's node: the entries for its items, and the node itself. The place after them.
+fn put_list(
+    section: Section,
+    s: &[u8],
+    from: usize,
+    left: usize,
+    kind: Kind,
+    count: usize,
+    base: Counts,
+    after: Counts,
+    out: &mut [u8],
+    to: usize,
+) -> usize
+    requires { ⌜ (from ≤ length (now s)) × (length (now s) < 65536) × (left ≤ maxLevels) × (count ≤ 16384) × (after ≡ plus base (itemsAt left kind count (now s) from .made .counts)) × (after .links < 65536) × FewOwn base after (itemsAt left kind count (now s) from .made) × Room (length (now out)) to (ownBytes section kind (itemsAt left kind count (now s) from .made) base) ⌝ }
+    ensures { λ r. ⌜ Wrote (now (out .entry)) (now (out .exit)) to (ownBytes section kind (itemsAt left kind count (now (s .entry)) from .made) base) r ⌝ }
+{
+    let end = put_own(section, s, from, left, kind, count, base, after, out, to);
+    put_node(section, kind_number(kind), after.links, count, out, end)
+}
+
+// A link without a name. The place after it.
+fn put_bare(section: Section, target: usize, out: &mut [u8], to: usize) -> usize
+    requires { ⌜ (target < 65536) × Room (length (now out)) to (bareEntry section target) ⌝ }
+    ensures { λ r. ⌜ Wrote (now (out .entry)) (now (out .exit)) to (bareEntry section target) r ⌝ }
+{
+    match section {
+        Section::Nodes => to,
+        Section::Links => put_link(Kind::Array, target, 0, out, to),
+        Section::Names => to,
+        Section::Text => to,
+    }
+}
+
+// What a section gets of an Array of a primitive. The place after it.
+fn put_array(section: Section, p: u8, base: Counts, out: &mut [u8], to: usize) -> usize
+    requires { ⌜ Few (plus base (listPiece Array (packedArray p) .counts)) × Room (length (now out)) to (listPiece Array (packedArray p) .bytes section base) ⌝ }
+    ensures { λ r. ⌜ Wrote (now (out .entry)) (now (out .exit)) to (listPiece Array (packedArray p) .bytes section base) r ⌝ }
+{
+    let linked = put_node(section, p, 0, 0, out, to);
+    let end = put_bare(section, base.nodes, out, linked);
+    put_node(section, ARRAY, base.links, 1, out, end)
+}
+
+// What a section gets of a Map of two primitives. The place after it.
+fn put_map(section: Section, p: u8, q: u8, base: Counts, out: &mut [u8], to: usize) -> usize
+    requires { ⌜ Few (plus base (listPiece Map (packedMap p q) .counts)) × Room (length (now out)) to (listPiece Map (packedMap p q) .bytes section base) ⌝ }
+    ensures { λ r. ⌜ Wrote (now (out .entry)) (now (out .exit)) to (listPiece Map (packedMap p q) .bytes section base) r ⌝ }
+{
+    let second = put_node(section, p, 0, 0, out, to);
+    let linked = put_node(section, q, 0, 0, out, second);
+    let other = put_bare(section, base.nodes, out, linked);
+    let end = put_bare(section, base.nodes + 1, out, other);
+    put_node(section, MAP, base.links, 2, out, end)
+}
+
+// What a section gets of a shape of one byte. The place after it.
+fn put_short(section: Section, b: u8, base: Counts, out: &mut [u8], to: usize) -> usize
+    requires { ⌜ Few (plus base (shortPiece b .counts)) × Room (length (now out)) to (shortPiece b .bytes section base) ⌝ }
+    ensures { λ r. ⌜ Wrote (now (out .entry)) (now (out .exit)) to (shortPiece b .bytes section base) r ⌝ }
+{
+    if b < SHORT_BLANKS {
+        return put_node(section, VARIABLE, b as usize, 0, out, to);
+    }
+    if b < PACKED {
+        return put_node(section, b - PRIMITIVES, 0, 0, out, to);
+    }
+    if b < PACKED_MAPS {
+        return put_array(section, b - PACKED, base, out, to);
+    }
+    let pair = b - PACKED_MAPS;
+    put_map(section, pair / 5, pair % 5, base, out, to)
+}
+
+// What a section gets of a Symbol, given its bytes. The place after it.
+fn put_symbol(section: Section, w: &[u8], base: Counts, out: &mut [u8], to: usize) -> usize
+    requires { ⌜ (length (now w) < 65536) × Few (plus base (symbolPiece (now w) .counts)) × Room (length (now out)) to (symbolPiece (now w) .bytes section base) ⌝ }
+    ensures { λ r. ⌜ Wrote (now (out .entry)) (now (out .exit)) to (symbolPiece (now (w .entry)) .bytes section base) r ⌝ }
+{
+    if w.len() < HEAD_SIZE {
+        return put_node(section, SYMBOL, base.links, 0, out, to);
+    }
+    let list = parts::list_at(w, HEAD_SIZE, Kind::Symbol);
+    put_list(
+        section,
+        w,
+        list.from,
+        0,
+        Kind::Symbol,
+        list.count,
+        base,
+        base,
+        out,
+        to,
+    )
+}
+
+// What a section gets of a shape with a payload that is no list of shapes. The place after it.
+fn put_plain(
+    section: Section,
+    s: &[u8],
+    at: usize,
+    left: usize,
+    kind: Kind,
+    base: Counts,
+    out: &mut [u8],
+    to: usize,
+) -> usize
+    requires { ⌜ (at < length (now s)) × (length (now s) < 65536) × (firstAt (now s) at ≡ Long kind) × (shaped kind ≡ false) × Few (plus base (passShape pieces left (now s) at .made .counts)) × Room (length (now out)) to (passShape pieces left (now s) at .made .bytes section base) ⌝ }
+    ensures { λ r. ⌜ Wrote (now (out .entry)) (now (out .exit)) to (passShape pieces left (now (s .entry)) at .made .bytes section base) r ⌝ }
+{
+    if reader::payload::named_kind(kind) {
+        let next = parts::past_long(s, at);
+        return put_symbol(section, &s[at..next], base, out, to);
+    }
+    if s.len() - at < LONG_BLANK {
+        return to;
+    }
+    put_node(
+        section,
+        VARIABLE,
+        leaves::two_at(s, at + HEAD_SIZE),
+        0,
+        out,
+        to,
+    )
+}
+
+// What a section gets of the shape at a place, where so many entries are there before it. The place after it.
+fn put_at(
+    section: Section,
+    s: &[u8],
+    at: usize,
+    left: usize,
+    base: Counts,
+    out: &mut [u8],
+    to: usize,
+) -> usize
+    requires { ⌜ (at ≤ length (now s)) × (length (now s) < 65536) × (left ≤ maxLevels) × Few (plus base (passShape pieces left (now s) at .made .counts)) × Room (length (now out)) to (passShape pieces left (now s) at .made .bytes section base) × Linked base ⌝ }
+    ensures { λ r. ⌜ Wrote (now (out .entry)) (now (out .exit)) to (passShape pieces left (now (s .entry)) at .made .bytes section base) r ⌝ }
+{
+    match parts::first_at(s, at) {
+        First::Unassigned => to,
+        First::Short { levels: _ } => put_short(section, s[at], base, out, to),
+        First::Long { kind } => {
+            if reader::payload::shaped_kind(kind) {
+                if left == 0 {
+                    return to;
+                }
+                if s.len() - at < HEAD_SIZE {
+                    return to;
+                }
+                let list = parts::list_at(s, at + HEAD_SIZE, kind);
+                let all = count_items(s, list.from, left - 1, kind, list.count);
+                let end = put_items(
+                    section,
+                    s,
+                    list.from,
+                    left - 1,
+                    kind,
+                    list.count,
+                    base,
+                    out,
+                    to,
+                );
+                return put_list(
+                    section,
+                    s,
+                    list.from,
+                    left - 1,
+                    kind,
+                    list.count,
+                    base,
+                    plus(base, all.counts),
+                    out,
+                    end,
+                );
+            }
+            put_plain(section, s, at, left, kind, base, out, to)
+        }
+    }
+}
+
+// What a section gets of the shapes of a list's items. The place after it. The pair of levels left and items left falls, as the reader's does.
+fn put_items(
+    section: Section,
+    s: &[u8],
+    from: usize,
+    left: usize,
+    kind: Kind,
+    count: usize,
+    base: Counts,
+    out: &mut [u8],
+    first: usize,
+) -> usize
+    requires { ⌜ (from ≤ length (now s)) × (length (now s) < 65536) × (left ≤ maxLevels) × (count ≤ 16384) × Few (plus base (passItems pieces (passShape pieces left) kind count (now s) from noItems .made .counts)) × Room (length (now out)) first (passItems pieces (passShape pieces left) kind count (now s) from noItems .made .shapes section base) × Linked base ⌝ }
+    ensures { λ r. ⌜ Wrote (now (out .entry)) (now (out .exit)) first (passItems pieces (passShape pieces left) kind count (now (s .entry)) from noItems .made .shapes section base) r ⌝ }
+{
+    let mut at = from;
+    let mut to = first;
+    let mut there = base;
+    let mut due = count;
+    while 0 < due {
+        due -= 1;
+        let start = parts::past_name(s, at, kind);
+        let part = count_at(s, start, left);
+        to = put_at(section, s, start, left, there, out, to);
+        there = plus(there, part.counts);
+        at = part.next;
+    }
+    to
+}
+
+// A section of an accepted encoding's table, after its count. The place after it.
+fn put_section(section: Section, count: usize, bytes: &[u8], out: &mut [u8], to: usize) -> usize
+    requires { ⌜ (count < 65536) × (length (now bytes) < 65536) × Few (passShape pieces maxLevels (now bytes) 0 .made .counts) × Room (length (now out)) to (twoBytes count ++ passShape pieces maxLevels (now bytes) 0 .made .bytes section none) ⌝ }
+    ensures { λ r. ⌜ Wrote (now (out .entry)) (now (out .exit)) to (twoBytes count ++ passShape pieces maxLevels (now (bytes .entry)) 0 .made .bytes section none) r ⌝ }
+{
+    put_two(out, to, count);
+    put_at(
+        section,
+        bytes,
+        0,
+        MAX_LEVELS,
+        no_counts(),
+        out,
+        to + COUNT_SIZE,
+    )
+}
+
+// How many bytes a table of so many entries has.
+fn table_size(all: Counts) -> usize
+    requires { ⌜ Few all ⌝ }
+    ensures { λ r. ⌜ r ≡ tableSize all ⌝ }
+{
+    4 * COUNT_SIZE
+        + NODE_SIZE * all.nodes
+        + LINK_SIZE * all.links
+        + NAME_SIZE * all.names
+        + all.text
+}
+
+// The table of an accepted encoding, of so many entries.
+fn put_table(bytes: &[u8], all: Counts, out: &mut [u8]) -> usize
+    requires { ⌜ (length (now bytes) < 65536) × (all ≡ passShape pieces maxLevels (now bytes) 0 .made .counts) × Few all × Room (length (now out)) 0 (sections (passShape pieces maxLevels (now bytes) 0 .made)) ⌝ }
+    ensures { λ r. ⌜ Wrote (now (out .entry)) (now (out .exit)) 0 (sections (passShape pieces maxLevels (now (bytes .entry)) 0 .made)) r ⌝ }
+{
+    let links = put_section(Section::Nodes, all.nodes, bytes, out, 0);
+    let names = put_section(Section::Links, all.links, bytes, out, links);
+    let text = put_section(Section::Names, all.names, bytes, out, names);
+    put_section(Section::Text, all.text, bytes, out, text)
+}
+
+// Makes the table of an encoding, whatever its bytes are, in the front of a lent buffer of any length.
+pub fn to_table(bytes: &[u8], out: &mut [u8]) -> Made
+    ensures is { λ r. ⌜ r ≡ madeSaid (tableAnswer (now (bytes .entry)) (length (now (out .entry)))) ⌝ }
+    ensures buffer { λ _. ⌜ now (out .exit) ≡ bufferAfter (now (out .entry)) (tableAnswer (now (bytes .entry)) (length (now (out .entry)))) ⌝ }
+{
+    match reader::read(bytes) {
+        Judgement::Refused { number, place } => Made::Refused { number, place },
+        Judgement::Accepted {
+            length: _,
+            depth: _,
+        } => {
+            let all = count_at(bytes, 0, MAX_LEVELS).counts;
+            let needed = table_size(all);
+            if out.len() < needed {
+                return Made::Refused {
+                    number: BUFFER_SHORT,
+                    place: needed,
+                };
+            }
+            let length = put_table(bytes, all, out);
+            Made::Written { length }
+        }
+    }
+}

@@ -1,0 +1,6 @@
+pub mod ByKind
+pub mod Shapes
+pub mod Links
+pub mod Turns
+pub mod Heads
+pub mod Answering

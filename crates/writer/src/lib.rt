@@ -1,0 +1,370 @@
+// The writer: from a node table to the encoding of the shape that it means (01-scope.md, "Node table"). The checks come first, then how long and
+// how deep the shape is, found without walking what nodes share; only what is known to fit is written.
+use extents::extents_of;
+use leaves::buffer::Made;
+use leaves::buffer::put_byte;
+use leaves::buffer::put_leb;
+use leaves::buffer::put_part;
+use leaves::limits::MAX_BYTES;
+use leaves::limits::MAX_LEVELS;
+use leaves::limits::MAX_NODES;
+use leaves::refusals::BUFFER_SHORT;
+use leaves::refusals::MADE_TOO_DEEP;
+use leaves::refusals::MADE_TOO_LONG;
+use leaves::refusals::NAME_BROKEN;
+use leaves::refusals::NODE_BROKEN;
+use leaves::refusals::SECTION_BROKEN;
+use parts::HEAD_SIZE;
+use parts::put::put_blank;
+use parts::put::put_head;
+use reader::first::Kind;
+use reader::first::PACKED;
+use reader::first::PACKED_MAPS;
+use reader::first::PRIMITIVES;
+use tables::ARRAY;
+use tables::COUNT_SIZE;
+use tables::FUNCTION;
+use tables::Layout;
+use tables::MAP;
+use tables::NODE_SIZE;
+use tables::Node;
+use tables::RECORD;
+use tables::SYMBOL;
+use tables::Way;
+ghost use mathlib.Core.Path.{_≡_};
+ghost use Prim.Native.Nat.{_≤_, _<_, _+_, _*_, _-_, _/_};
+ghost use lib.ListN.{length};
+ghost use Rattle.meaning.specs.Limits.{maxNodes};
+ghost use Rattle.meaning.specs.TableReading.{nodeSize};
+ghost use Rattle.meaning.specs.Answers.{writeAnswer, bufferAfter};
+ghost use Rattle.leaves.specs.Said.{madeSaid};
+ghost use Rattle.leaves.specs.Written.{written};
+ghost use Rattle.tables.specs.Places.{nodeSaid};
+ghost use Rattle.writer.specs.Bytes.{textAt, nameBytes, arrayForm, mapForm, formOf, countBytes, whole, tableAt, encodedAt, linksBytes};
+ghost use Rattle.writer.specs.Sound.{Sound, HasName, NamedBy, Aims, Formed, Linked, Room, soundAnswer};
+
+// The text of name k with its length before it. The place after it.
+fn put_text(rest: &[u8], links: usize, names: usize, k: usize, out: &mut [u8], to: usize) -> usize
+    requires { ⌜ HasName (now rest) links names k × (to + length (textAt (now rest) links names k) ≤ length (now out)) ⌝ }
+    ensures after { λ r. ⌜ r ≡ to + length (textAt (now (rest .entry)) links names k) ⌝ }
+    ensures wrote { λ _. ⌜ now (out .exit) ≡ written (now (out .entry)) to (textAt (now (rest .entry)) links names k) ⌝ }
+{
+    let name = tables::name_at(rest, links, k);
+    let first = tables::text_from(links, names) + name.start;
+    let start = put_leb(out, to, name.size);
+    put_part(out, start, rest, first, first + name.size);
+    start + name.size
+}
+
+// The name of a link, where its node has names. The place after it.
+fn put_name(
+    rest: &[u8],
+    links: usize,
+    names: usize,
+    way: Way,
+    k: usize,
+    out: &mut [u8],
+    to: usize,
+) -> usize
+    requires { ⌜ NamedBy (now rest) links names way k × (to + length (nameBytes (now rest) links names way k) ≤ length (now out)) ⌝ }
+    ensures after { λ r. ⌜ r ≡ to + length (nameBytes (now (rest .entry)) links names way k) ⌝ }
+    ensures wrote { λ _. ⌜ now (out .exit) ≡ written (now (out .entry)) to (nameBytes (now (rest .entry)) links names way k) ⌝ }
+{
+    match way {
+        Way::Bare => to,
+        Way::Named => put_text(rest, links, names, k, out, to),
+        Way::Texts => put_text(rest, links, names, k, out, to),
+    }
+}
+
+// What a node becomes: one byte, a blank, or a list of a kind, its count before it where it has one.
+pub enum Form {
+    Byte {
+        byte: u8,
+    },
+    Blank,
+    List {
+        kind: Kind,
+        way: Way,
+        counted: bool,
+        count: usize,
+    },
+}
+
+// What an Array becomes, whose link is link a: of a primitive it is one byte.
+fn array_form(nodes: &[u8], rest: &[u8], a: usize) -> Form
+    requires { ⌜ Aims (now nodes) (now rest) a ⌝ }
+    ensures { λ r. ⌜ r ≡ arrayForm (now (nodes .entry)) (now (rest .entry)) a ⌝ }
+{
+    let item = tables::target_kind(nodes, rest, a);
+    if item < ARRAY {
+        return Form::Byte {
+            byte: PACKED + item,
+        };
+    }
+    Form::List {
+        kind: Kind::Array,
+        way: Way::Bare,
+        counted: false,
+        count: 0,
+    }
+}
+
+// What a Map becomes, whose links are link a and the one after it: of two primitives it is one byte.
+fn map_form(nodes: &[u8], rest: &[u8], a: usize) -> Form
+    requires { ⌜ Aims (now nodes) (now rest) a × Aims (now nodes) (now rest) (a + 1) ⌝ }
+    ensures { λ r. ⌜ r ≡ mapForm (now (nodes .entry)) (now (rest .entry)) a ⌝ }
+{
+    let key = tables::target_kind(nodes, rest, a);
+    if key < ARRAY {
+        let value = tables::target_kind(nodes, rest, a + 1);
+        if value < ARRAY {
+            return Form::Byte {
+                byte: PACKED_MAPS + 5 * key + value,
+            };
+        }
+    }
+    Form::List {
+        kind: Kind::Map,
+        way: Way::Bare,
+        counted: false,
+        count: 0,
+    }
+}
+
+// What a good node becomes.
+fn form_of(nodes: &[u8], rest: &[u8], node: Node) -> Form
+    requires { ⌜ Formed (now nodes) (now rest) (nodeSaid node) ⌝ }
+    ensures { λ r. ⌜ r ≡ formOf (now (nodes .entry)) (now (rest .entry)) (nodeSaid node) ⌝ }
+{
+    let kind = node.kind;
+    let b = node.b;
+    if kind < ARRAY {
+        return Form::Byte {
+            byte: PRIMITIVES + kind,
+        };
+    }
+    if kind == ARRAY {
+        return array_form(nodes, rest, node.a);
+    }
+    if kind == MAP {
+        return map_form(nodes, rest, node.a);
+    }
+    if kind == RECORD {
+        return Form::List {
+            kind: Kind::Record,
+            way: Way::Named,
+            counted: true,
+            count: b,
+        };
+    }
+    if kind == FUNCTION {
+        return Form::List {
+            kind: Kind::Function,
+            way: Way::Bare,
+            counted: true,
+            count: b - 1,
+        };
+    }
+    if kind == SYMBOL {
+        return Form::List {
+            kind: Kind::Symbol,
+            way: Way::Texts,
+            counted: true,
+            count: b,
+        };
+    }
+    Form::Blank
+}
+
+// A list's count, where it has one. The place after it.
+fn put_count(counted: bool, count: usize, out: &mut [u8], to: usize) -> usize
+    requires { ⌜ (count < 16384) × (to + length (countBytes counted count) ≤ length (now out)) ⌝ }
+    ensures after { λ r. ⌜ r ≡ to + length (countBytes counted count) ⌝ }
+    ensures wrote { λ _. ⌜ now (out .exit) ≡ written (now (out .entry)) to (countBytes counted count) ⌝ }
+{
+    if counted {
+        return put_leb(out, to, count);
+    }
+    to
+}
+
+// Writes the shape of node i. The place after it. Its links are written before its head, which says how long they are.
+fn put_node(
+    nodes: &[u8],
+    rest: &[u8],
+    links: usize,
+    names: usize,
+    i: usize,
+    out: &mut [u8],
+    to: usize,
+) -> usize
+    requires { ⌜ Sound (now nodes) (now rest) links names × (i < length (now nodes) / nodeSize) × Room (length (now out)) to (encodedAt (now nodes) (now rest) links names i) ⌝ }
+    ensures after { λ r. ⌜ r ≡ to + length (encodedAt (now (nodes .entry)) (now (rest .entry)) links names i) ⌝ }
+    ensures wrote { λ _. ⌜ now (out .exit) ≡ written (now (out .entry)) to (encodedAt (now (nodes .entry)) (now (rest .entry)) links names i) ⌝ }
+{
+    let node = tables::node_at(nodes, i);
+    match form_of(nodes, rest, node) {
+        Form::Byte { byte } => {
+            put_byte(out, to, byte);
+            to + 1
+        }
+        Form::Blank => put_blank(node.a, out, to),
+        Form::List {
+            kind,
+            way,
+            counted,
+            count,
+        } => {
+            let from = put_count(counted, count, out, to + HEAD_SIZE);
+            let end = put_run(nodes, rest, links, names, way, i, node.a, node.b, out, from);
+            put_head(kind, end - to - HEAD_SIZE, out, to);
+            end
+        }
+    }
+}
+
+// Writes what b links of node i from link a on stand for. The place after it. Targets stand before their node, so the pair of node and links falls.
+fn put_run(
+    nodes: &[u8],
+    rest: &[u8],
+    links: usize,
+    names: usize,
+    way: Way,
+    i: usize,
+    a: usize,
+    b: usize,
+    out: &mut [u8],
+    first: usize,
+) -> usize
+    requires { ⌜ Sound (now nodes) (now rest) links names × Linked (now nodes) (now rest) links names way i a b × Room (length (now out)) first (linksBytes (now nodes) (now rest) links names way a b) ⌝ }
+    ensures after { λ r. ⌜ r ≡ first + length (linksBytes (now (nodes .entry)) (now (rest .entry)) links names way a b) ⌝ }
+    ensures wrote { λ _. ⌜ now (out .exit) ≡ written (now (out .entry)) first (linksBytes (now (nodes .entry)) (now (rest .entry)) links names way a b) ⌝ }
+{
+    let mut x = a;
+    let mut to = first;
+    let mut due = b;
+    while 0 < due {
+        due -= 1;
+        let link = tables::link_at(rest, x);
+        x += 1;
+        let after = put_name(rest, links, names, way, link.name, out, to);
+        match way {
+            Way::Texts => {
+                to = after;
+            }
+            Way::Bare => {
+                to = put_node(nodes, rest, links, names, link.target, out, after);
+            }
+            Way::Named => {
+                to = put_node(nodes, rest, links, names, link.target, out, after);
+            }
+        }
+    }
+    to
+}
+
+// Writes what a table that passed its checks means, where it is small enough and there is room.
+fn write_sound(
+    nodes: &[u8],
+    rest: &[u8],
+    count: usize,
+    links: usize,
+    names: usize,
+    out: &mut [u8],
+) -> Made
+    requires { ⌜ Sound (now nodes) (now rest) links names × (length (now nodes) ≡ nodeSize * count) × (1 ≤ count) ⌝ }
+    ensures is { λ r. ⌜ r ≡ madeSaid (soundAnswer (tableAt (now (nodes .entry)) (now (rest .entry)) links names) (length (now (out .entry)))) ⌝ }
+    ensures buffer { λ _. ⌜ now (out .exit) ≡ bufferAfter (now (out .entry)) (soundAnswer (tableAt (now (nodes .entry)) (now (rest .entry)) links names) (length (now (out .entry)))) ⌝ }
+{
+    let mut lengths: [u16; 6144] = [0; 6144];
+    let mut depths: [u8; 6144] = [0; 6144];
+    extents_of(nodes, rest, count, links, names, &mut lengths, &mut depths);
+    let root = count - 1;
+    let needed = lengths[root] as usize;
+    if MAX_LEVELS < depths[root] as usize {
+        return Made::Refused {
+            number: MADE_TOO_DEEP,
+            place: 0,
+        };
+    }
+    if MAX_BYTES < needed {
+        return Made::Refused {
+            number: MADE_TOO_LONG,
+            place: 0,
+        };
+    }
+    if out.len() < needed {
+        return Made::Refused {
+            number: BUFFER_SHORT,
+            place: needed,
+        };
+    }
+    let length = put_node(nodes, rest, links, names, root, out, 0);
+    Made::Written { length }
+}
+
+// Writes what a table means whose first section is so many nodes, lent apart from the rest.
+pub fn write_parts(nodes: &[u8], rest: &[u8], count: usize, out: &mut [u8]) -> Made
+    requires { ⌜ (length (now nodes) ≡ nodeSize * count) × (1 ≤ count) × (count ≤ maxNodes) ⌝ }
+    ensures is { λ r. ⌜ r ≡ madeSaid (writeAnswer (whole count (now (nodes .entry)) (now (rest .entry))) (length (now (out .entry)))) ⌝ }
+    ensures buffer { λ _. ⌜ now (out .exit) ≡ bufferAfter (now (out .entry)) (writeAnswer (whole count (now (nodes .entry)) (now (rest .entry))) (length (now (out .entry)))) ⌝ }
+{
+    match tables::layout_of(rest) {
+        Layout::Broken { place } => Made::Refused {
+            number: SECTION_BROKEN,
+            place: COUNT_SIZE + NODE_SIZE * count + place,
+        },
+        Layout::Laid { links, names, text } => {
+            let node = tables::bad_node(nodes, rest, count, links, names);
+            if node < count {
+                return Made::Refused {
+                    number: NODE_BROKEN,
+                    place: node,
+                };
+            }
+            let name = tables::bad_name(rest, links, names, text);
+            if name < names {
+                return Made::Refused {
+                    number: NAME_BROKEN,
+                    place: name,
+                };
+            }
+            write_sound(nodes, rest, count, links, names, out)
+        }
+    }
+}
+
+// Writes the encoding of what a table means, whatever its bytes are, into the front of a lent buffer of any length.
+pub fn write(table: &[u8], out: &mut [u8]) -> Made
+    ensures is { λ r. ⌜ r ≡ madeSaid (writeAnswer (now (table .entry)) (length (now (out .entry)))) ⌝ }
+    ensures buffer { λ _. ⌜ now (out .exit) ≡ bufferAfter (now (out .entry)) (writeAnswer (now (table .entry)) (length (now (out .entry)))) ⌝ }
+{
+    if table.len() < COUNT_SIZE {
+        return Made::Refused {
+            number: SECTION_BROKEN,
+            place: 0,
+        };
+    }
+    let count = leaves::two_at(table, 0);
+    if count < 1 {
+        return Made::Refused {
+            number: SECTION_BROKEN,
+            place: 0,
+        };
+    }
+    if MAX_NODES < count {
+        return Made::Refused {
+            number: SECTION_BROKEN,
+            place: 0,
+        };
+    }
+    if table.len() - COUNT_SIZE < NODE_SIZE * count {
+        return Made::Refused {
+            number: SECTION_BROKEN,
+            place: 0,
+        };
+    }
+    let end = COUNT_SIZE + NODE_SIZE * count;
+    write_parts(&table[COUNT_SIZE..end], &table[end..], count, out)
+}
