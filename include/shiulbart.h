@@ -152,6 +152,41 @@ shiulbart_answer shiulbart_fill(const uint8_t *shape, size_t shape_length, const
 shiulbart_answer shiulbart_join(const uint8_t *first, size_t first_length, const uint8_t *second,
     size_t second_length, uint8_t *out, size_t out_length);
 
+/*
+ * Writes the encoding of the shape that a node table means. A table has four sections, each a count
+ * and so many entries; counts and numbers take two bytes each, low first:
+ *
+ * - 1 to 6,144 nodes of 6 bytes: kind, a byte of 0, a, b. Kinds 0 to 4 are Int, Float, Bool, Str and
+ *   Bytes, with a and b 0. 5 is an Array, 6 a Map, 7 a Record, 8 a Function and 9 a Symbol, of b links
+ *   from link a on. 10 is the blank of number a, with b 0. The last node is the root.
+ * - Up to 6,144 links of 4 bytes: target, name. An Array has 1 link, a Map 2 (key, value), a Function
+ *   at least 1 (the return last); a + b is at most the count of links. A target is a node before the
+ *   one whose link it is, but 0 in a Symbol. The name is one of the names in a Record and in a Symbol,
+ *   else 0. Nodes may share children and links.
+ * - Up to 2,048 names of 4 bytes: start and length in the text, of UTF-8.
+ * - Up to 2,048 bytes of text.
+ *
+ * If it is answered, the first `length` bytes of `out`, 1 to 2,048, are the encoding of the root's
+ * shape, and no other byte of it has changed. Otherwise refused, at the first of these that applies:
+ * 9, section by section, if its count is missing or outside its limits or its entries pass the end
+ * (that count's place), and then if bytes are left over (the first); 10 for a node that breaks any of
+ * this, reached or not (the node; links that no node uses are not looked at); 11 for a name, used or
+ * not, that passes the text or is not UTF-8 (the name); 15 and then 16, at 0, for the root's shape; 12
+ * if `out_length` is under the length needed (that length).
+ */
+shiulbart_answer shiulbart_write(const uint8_t *table, size_t table_length, uint8_t *out,
+    size_t out_length);
+
+/*
+ * The node table of an encoded shape, in the form that shiulbart_write takes. Nothing is shared: the
+ * children come first, in order, then the node, and with each node its links, names and texts, in
+ * order. A Record or a Symbol without links has the number of links so far as its a. If it is
+ * answered, the first `length` bytes of `out`, at most 61,448, are the table, and no other byte of it
+ * has changed; shiulbart_write makes the same encoding of them again. Otherwise refused with 1 to 8 as
+ * by shiulbart_read, and then with 12 if `out_length` is under the length needed (that length).
+ */
+shiulbart_answer shiulbart_table(const uint8_t *bytes, size_t length, uint8_t *out, size_t out_length);
+
 #ifdef __cplusplus
 }
 #endif

@@ -1,6 +1,6 @@
 /* Calls the archive from C through include/shiulbart.h: M1 to M14 of the bench card, children and
-   names, sheets, and every byte of the buffers that fill and join are lent. tests/host.sh compiles,
-   links and runs it. Its last line is 'N passed, M failed'. */
+   names, sheets, M4's table both ways, and every byte of the buffers that fill, join, write and table
+   are lent. tests/host.sh compiles, links and runs it. Its last line is 'N passed, M failed'. */
 #include "shiulbart.h"
 
 #include <stdio.h>
@@ -52,26 +52,63 @@ static void refused(const char *name, const uint8_t *bytes, size_t length, uint3
     expect(name, shiulbart_read(bytes, length), refusal(number, place));
 }
 
-typedef shiulbart_answer lent_call(const uint8_t *, size_t, const uint8_t *, size_t, uint8_t *, size_t);
+/* A buffer to lend that differs by position, and what it must be afterwards: the first `length` bytes
+   `made`, and the others, also those behind the lent part, as they were. */
+typedef struct buffer {
+    uint8_t out[64], after[64];
+} buffer;
 
-/* Calls fill or join with a buffer that differs by position, and looks at every byte of it: the first
-   `length` must be `made`, and the others, also those behind the buffer, as they were. */
-static void lent(const char *name, lent_call *call, const uint8_t *first, size_t first_length,
-    const uint8_t *second, size_t second_length, size_t room, shiulbart_answer answer, const uint8_t *made)
+static buffer lend(shiulbart_answer answer, const uint8_t *made)
 {
-    uint8_t out[40], before[40];
+    buffer buffer;
     size_t i;
-    for (i = 0; i < sizeof out; i++)
-        out[i] = before[i] = (uint8_t)(7 * i + 3);
+    for (i = 0; i < sizeof buffer.out; i++)
+        buffer.out[i] = buffer.after[i] = (uint8_t)(7 * i + 3);
     if (answer.length > 0)
-        memcpy(before, made, answer.length);
-    expect(name, call(first, first_length, second, second_length, out, room), answer);
-    if (memcmp(out, before, sizeof out) == 0) {
+        memcpy(buffer.after, made, answer.length);
+    return buffer;
+}
+
+static void look(const char *name, const buffer *buffer)
+{
+    if (memcmp(buffer->out, buffer->after, sizeof buffer->out) == 0) {
         passed++;
     } else {
         failed++;
         printf("FAILED %s: the buffer is not as it should be\n", name);
     }
+}
+
+typedef shiulbart_answer lent_call(const uint8_t *, size_t, const uint8_t *, size_t, uint8_t *, size_t);
+
+/* Calls fill or join, and looks at every byte of the buffer. */
+static void lent(const char *name, lent_call *call, const uint8_t *first, size_t first_length,
+    const uint8_t *second, size_t second_length, size_t room, shiulbart_answer answer, const uint8_t *made)
+{
+    buffer buffer = lend(answer, made);
+    expect(name, call(first, first_length, second, second_length, buffer.out, room), answer);
+    look(name, &buffer);
+}
+
+typedef shiulbart_answer one_call(const uint8_t *, size_t, uint8_t *, size_t);
+
+/* Calls write or table, and looks at every byte of the buffer. */
+static void one(const char *name, one_call *call, const uint8_t *bytes, size_t length, size_t room,
+    shiulbart_answer answer, const uint8_t *made)
+{
+    buffer buffer = lend(answer, made);
+    expect(name, call(bytes, length, buffer.out, room), answer);
+    look(name, &buffer);
+}
+
+/* Calls write with one byte of a table changed. */
+static void changed(const char *name, const uint8_t *table, size_t length, size_t place, uint8_t byte,
+    shiulbart_answer answer)
+{
+    uint8_t copy[64];
+    memcpy(copy, table, length);
+    copy[place] = byte;
+    one(name, shiulbart_write, copy, length, 64, answer, NULL);
 }
 
 int main(void)
@@ -102,6 +139,12 @@ int main(void)
     static const uint8_t m13_made[] = {0x60};
     static const uint8_t m14_first[] = {0x01, 0x00, 0x00, 0x00, 0x01, 0x00, 0x01, 0x00, 0x01};
     static const uint8_t m14_second[] = {0x01, 0x00, 0x01, 0x00, 0x01, 0x00, 0x01, 0x00, 0x20};
+    static const uint8_t m4_table[] = {0x04, 0x00, 0x00, 0x00, 0x00, 0x00, 0x00, 0x00, 0x02, 0x00, 0x00,
+        0x00, 0x00, 0x00, 0x05, 0x00, 0x00, 0x00, 0x01, 0x00, 0x07, 0x00, 0x01, 0x00, 0x02, 0x00, 0x03, 0x00,
+        0x01, 0x00, 0x00, 0x00, 0x00, 0x00, 0x00, 0x00, 0x02, 0x00, 0x01, 0x00, 0x02, 0x00, 0x00, 0x00, 0x01,
+        0x00, 0x01, 0x00, 0x01, 0x00, 0x02, 0x00, 0x61, 0x62};
+    static const uint8_t int_table[] = {0x01, 0x00, 0x00, 0x00, 0x00, 0x00, 0x00, 0x00, 0x00, 0x00, 0x00,
+        0x00, 0x00, 0x00};
     const uint64_t two_to_32 = (uint64_t)1 << 32;
     const uint32_t none = SHIULBART_NO_SUCH_PART;
     const uint32_t broken = SHIULBART_SHEET_BROKEN;
@@ -193,6 +236,39 @@ int main(void)
     expect("nothing filled, null pointers", shiulbart_fill(NULL, 0, NULL, 0, NULL, 0),
         refusal(SHIULBART_CUT_SHORT, 0));
     expect("nothing joined, null pointers", shiulbart_join(NULL, 0, NULL, 0, NULL, 0), refusal(broken, 0));
+
+    one("M4's table", shiulbart_write, m4_table, sizeof m4_table, 64, answered(0, 10, 0), m4);
+    one("M4's table, just enough room", shiulbart_write, m4_table, sizeof m4_table, 10, answered(0, 10, 0), m4);
+    one("M4's table, a byte short", shiulbart_write, m4_table, sizeof m4_table, 9,
+        refusal(SHIULBART_BUFFER_SHORT, 10), NULL);
+    one("M4's table, cut", shiulbart_write, m4_table, sizeof m4_table - 1, 64,
+        refusal(SHIULBART_SECTION_BROKEN, 50), NULL);
+    changed("M4's table, no nodes", m4_table, sizeof m4_table, 0, 0, refusal(SHIULBART_SECTION_BROKEN, 0));
+    changed("M4's table, a byte left over", m4_table, sizeof m4_table, 50, 1,
+        refusal(SHIULBART_SECTION_BROKEN, 53));
+    changed("M4's table, an Array of itself", m4_table, sizeof m4_table, 28, 2,
+        refusal(SHIULBART_NODE_BROKEN, 2));
+    changed("M4's table, a name too long", m4_table, sizeof m4_table, 48, 2,
+        refusal(SHIULBART_NAME_BROKEN, 1));
+    changed("M4's table, a name that is not UTF-8", m4_table, sizeof m4_table, 52, 0xFF,
+        refusal(SHIULBART_NAME_BROKEN, 0));
+    one("no table", shiulbart_write, m4_table, 0, 64, refusal(SHIULBART_SECTION_BROKEN, 0), NULL);
+    one("M4 to its table", shiulbart_table, m4, sizeof m4, 64, answered(0, 54, 0), m4_table);
+    one("M4 to its table, just enough room", shiulbart_table, m4, sizeof m4, 54, answered(0, 54, 0), m4_table);
+    one("M4 to its table, a byte short", shiulbart_table, m4, sizeof m4, 53,
+        refusal(SHIULBART_BUFFER_SHORT, 54), NULL);
+    one("M1 to its table", shiulbart_table, m1, sizeof m1, 64, answered(0, 14, 0), int_table);
+    one("M1's table", shiulbart_write, int_table, sizeof int_table, 64, answered(0, 1, 0), m1);
+    one("M3 to a table", shiulbart_table, m3, sizeof m3, 64, refusal(SHIULBART_LONG_FORM, 0), NULL);
+    one("2,049 bytes to a table", shiulbart_table, too_long, sizeof too_long, 64,
+        refusal(SHIULBART_INPUT_TOO_LONG, 2048), NULL);
+    expect("M4's table, null for no room", shiulbart_write(m4_table, sizeof m4_table, NULL, 0),
+        refusal(SHIULBART_BUFFER_SHORT, 10));
+    expect("M4 to its table, null for no room", shiulbart_table(m4, sizeof m4, NULL, 0),
+        refusal(SHIULBART_BUFFER_SHORT, 54));
+    expect("nothing written, null pointers", shiulbart_write(NULL, 0, NULL, 0),
+        refusal(SHIULBART_SECTION_BROKEN, 0));
+    expect("no table, null pointers", shiulbart_table(NULL, 0, NULL, 0), refusal(SHIULBART_CUT_SHORT, 0));
 
     printf("%u passed, %u failed\n", passed, failed);
     return failed > 0;
