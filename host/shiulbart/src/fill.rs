@@ -131,7 +131,7 @@ pub fn join_to_vec(first: &[u8], second: &[u8]) -> Result<Vec<u8>, Refusal> {
 
 /// How many bytes were written, or the refusal.
 #[inline]
-fn written(answer: Answer) -> Result<usize, Refusal> {
+pub(crate) fn written(answer: Answer) -> Result<usize, Refusal> {
     match answer.number {
         0 => Ok(answer.length as usize),
         _ => Err(Refusal::told(answer)),
@@ -140,7 +140,9 @@ fn written(answer: Answer) -> Result<usize, Refusal> {
 
 /// The answer of a call that is asked for its length with an empty buffer first. No answer is empty,
 /// so what that gives is a refusal.
-fn to_vec(call: impl Fn(&mut [u8]) -> Result<usize, Refusal>) -> Result<Vec<u8>, Refusal> {
+pub(crate) fn to_vec(
+    call: impl Fn(&mut [u8]) -> Result<usize, Refusal>,
+) -> Result<Vec<u8>, Refusal> {
     let needed = match call(&mut []) {
         Err(refusal) if refusal.kind() == RefusalKind::BufferShort => refusal.place() as usize,
         other => return other.map(|_| Vec::new()),

@@ -33,6 +33,13 @@ extern "C" {
         out: *mut u8,
         out_length: usize,
     ) -> Answer;
+    fn shiulbart_write(
+        table: *const u8,
+        table_length: usize,
+        out: *mut u8,
+        out_length: usize,
+    ) -> Answer;
+    fn shiulbart_table(bytes: *const u8, length: usize, out: *mut u8, out_length: usize) -> Answer;
 }
 
 #[inline]
@@ -90,4 +97,16 @@ pub(crate) fn join(first: &[u8], second: &[u8], out: &mut [u8]) -> Answer {
             out.len(),
         )
     }
+}
+
+#[inline]
+pub(crate) fn write(table: &[u8], out: &mut [u8]) -> Answer {
+    // SAFETY: as in `fill`.
+    unsafe { shiulbart_write(table.as_ptr(), table.len(), out.as_mut_ptr(), out.len()) }
+}
+
+#[inline]
+pub(crate) fn table(bytes: &[u8], out: &mut [u8]) -> Answer {
+    // SAFETY: as in `fill`.
+    unsafe { shiulbart_table(bytes.as_ptr(), bytes.len(), out.as_mut_ptr(), out.len()) }
 }
