@@ -6,6 +6,8 @@ use crate::random::Random;
 
 pub mod fills;
 pub mod sheets;
+pub mod table;
+pub mod tables;
 
 const MAX_BYTES: usize = 2048;
 const MAX_LEVELS: usize = 16;

@@ -11,6 +11,8 @@
 pub mod fill;
 pub mod parts;
 pub mod sheet;
+pub mod table;
+pub mod write;
 
 /// An encoding that was accepted.
 #[derive(Clone, Copy, Debug, PartialEq, Eq)]

@@ -308,13 +308,16 @@ pub type Lends = fn(&[u8], &[u8], &mut [u8]) -> Outcome;
 /// A model with one fault for such a call, and the fault in words.
 pub type WrongLends = (&'static str, Lends);
 
-/// What the model makes of two inputs, however long it is.
-pub type Whole = fn(&[u8], &[u8]) -> Result<Vec<u8>, model::Refusal>;
+/// What the model makes, however long it is.
+pub type Made = Result<Vec<u8>, model::Refusal>;
+
+/// What it makes of two inputs.
+pub type Whole = fn(&[u8], &[u8]) -> Made;
 
 /// `fill` of each program.
 pub mod fill {
     use crate::fast::fill::{fault::*, fill};
-    use crate::{Outcome, WrongLends};
+    use crate::{Made, Outcome, WrongLends};
 
     pub fn proved(template: &[u8], sheet: &[u8], out: &mut [u8]) -> Outcome {
         match shiulbart::fill(template, sheet, out) {
@@ -323,7 +326,7 @@ pub mod fill {
         }
     }
 
-    pub fn whole(template: &[u8], sheet: &[u8]) -> Result<Vec<u8>, model::Refusal> {
+    pub fn whole(template: &[u8], sheet: &[u8]) -> Made {
         model::sheet::fill(template, sheet, usize::MAX)
     }
 
@@ -365,7 +368,7 @@ pub mod fill {
 /// `join` of each program.
 pub mod join {
     use crate::fast::fill::{fault::*, join};
-    use crate::{Outcome, WrongLends};
+    use crate::{Made, Outcome, WrongLends};
 
     pub fn proved(first: &[u8], second: &[u8], out: &mut [u8]) -> Outcome {
         match shiulbart::join(first, second, out) {
@@ -374,7 +377,7 @@ pub mod join {
         }
     }
 
-    pub fn whole(first: &[u8], second: &[u8]) -> Result<Vec<u8>, model::Refusal> {
+    pub fn whole(first: &[u8], second: &[u8]) -> Made {
         model::sheet::join(first, second, usize::MAX)
     }
 
@@ -421,6 +424,147 @@ pub mod join {
         ("needs one byte more", fast::<NEEDED_ONE_MORE>),
         ("writes one byte more", fast::<ONE_BYTE_MORE>),
         ("refuses, but writes what fits", fast::<WRITES_WHAT_FITS>),
+    ];
+}
+
+/// A program for a call that takes one input and is lent a buffer for its answer.
+pub type Makes = fn(&[u8], &mut [u8]) -> Outcome;
+
+/// A model with one fault for such a call, and the fault in words.
+pub type WrongMakes = (&'static str, Makes);
+
+/// What the model makes of one input.
+pub type WholeOf = fn(&[u8]) -> Made;
+
+/// `write` of each program.
+pub mod write {
+    use crate::wrong::write::*;
+    use crate::{fast, Made, Outcome, WrongMakes};
+
+    pub fn proved(table: &[u8], out: &mut [u8]) -> Outcome {
+        match shiulbart::write(table, out) {
+            Ok(length) => Outcome::answer(length, 0),
+            Err(refusal) => Outcome::refusal(refusal.number(), refusal.place()),
+        }
+    }
+
+    pub fn whole(table: &[u8]) -> Made {
+        model::table::write(table, usize::MAX)
+    }
+
+    pub fn fast(table: &[u8], out: &mut [u8]) -> Outcome {
+        match fast::write::write(table, out) {
+            Ok(length) => Outcome::answer(length, 0),
+            Err(refusal) => Outcome::refusal(refusal.number, refusal.place),
+        }
+    }
+
+    pub const WRONG: [WrongMakes; 53] = [
+        ("refuses everything", refuses_everything),
+        ("gives one fixed shape", one_fixed_shape),
+        ("takes node 0 for the root", root_first),
+        ("takes 6,145 nodes", more_nodes),
+        ("takes 6,145 links", more_links),
+        ("takes 2,049 names", more_names),
+        ("takes 2,049 bytes of text", more_text),
+        ("takes bytes left over", left_over),
+        ("takes kind 11 for a blank", kind_11),
+        ("does not look at the second byte", second_byte),
+        ("takes a primitive with a or b", primitive_with_numbers),
+        ("takes a blank with b", blank_with_b),
+        ("takes an Array of two links", array_of_two),
+        ("takes a Function of no links", no_return),
+        ("wraps a + b at 16 bits", sum_of_16_bits),
+        ("takes an empty list past the links", empty_past_links),
+        ("takes a target equal to its node", target_of_itself),
+        ("does not check a Symbol's targets", symbol_targets),
+        ("takes a name equal to the count", name_at_count),
+        ("does not check an Array's names", bare_names),
+        ("checks links that no node uses", unused_links),
+        ("checks no node that is not reached", unreached_nodes),
+        ("checks no name that no link uses", unused_names),
+        ("looks at text without a name", all_text),
+        ("takes a name that cuts a character", cut_characters),
+        ("gives 11 before 10", eleven_before_ten),
+        ("checks all ranges before UTF-8", ranges_first),
+        ("gives 16 before 15", sixteen_first),
+        ("gives 12 before 15 and 16", twelve_first),
+        ("makes level 17", level_17),
+        ("makes 2,049 bytes", longer),
+        ("gives 15 for any node", deepest_node),
+        ("gives 16 for any node", longest_node),
+        ("takes the length modulo 2^16", length_of_16_bits),
+        ("takes the length modulo 2^32", length_of_32_bits),
+        ("places bytes left over at a count", left_over_at_count),
+        ("places a cut section at the end", cut_at_end),
+        ("places half a count after it", half_a_count),
+        ("places 10 at the node's byte", place_of_node),
+        ("places 10 at the node's link", place_of_link),
+        ("places 11 at the name's byte", place_of_name),
+        ("places 15 and 16 at the root", place_of_root),
+        ("keeps the long Array", long_arrays),
+        ("keeps the long Map", long_maps),
+        ("packs a Map value first", value_first),
+        ("writes every blank long", long_blanks),
+        ("writes the return first", return_first),
+        ("counts the return", return_counted),
+        ("writes what is shared once", shared_once),
+        ("needs one byte more", needed_one_more),
+        ("refuses the length needed", room_to_spare),
+        ("writes one byte more", one_byte_more),
+        ("refuses, but writes what fits", writes_what_fits),
+    ];
+}
+
+/// `table` of each program.
+pub mod table {
+    use crate::wrong::table::*;
+    use crate::{fast, Made, Outcome, WrongMakes};
+
+    pub fn proved(bytes: &[u8], out: &mut [u8]) -> Outcome {
+        match shiulbart::table(bytes, out) {
+            Ok(length) => Outcome::answer(length, 0),
+            Err(refusal) => Outcome::refusal(refusal.number(), refusal.place()),
+        }
+    }
+
+    pub fn whole(bytes: &[u8]) -> Made {
+        model::table::to_table(bytes, usize::MAX)
+    }
+
+    pub fn fast(bytes: &[u8], out: &mut [u8]) -> Outcome {
+        match fast::table::table(bytes, out) {
+            Ok(length) => Outcome::answer(length, 0),
+            Err(refusal) => Outcome::refusal(refusal.number, refusal.place),
+        }
+    }
+
+    pub const WRONG: [WrongMakes; 25] = [
+        ("refuses everything", refuses_everything),
+        ("gives one fixed table", one_fixed_table),
+        ("adds a Record's names first", names_first),
+        ("gives an empty Record's a as 0", empty_record_0),
+        ("gives an empty Symbol's a as 0", empty_symbol_0),
+        ("adds a node before its children", node_first),
+        ("adds links before the children's", links_first),
+        ("adds the last child first", last_first),
+        ("shares equal nodes", nodes_shared),
+        ("shares equal names", names_shared),
+        ("gives a Symbol's links a target", symbol_targets),
+        ("gives packed shapes no children", packed_without),
+        ("swaps a packed Map's children", packed_swapped),
+        ("adds the return first", return_first),
+        ("numbers a Function's links", links_numbered),
+        ("starts texts anew at each node", texts_anew),
+        ("adds texts with their lengths", lengths_too),
+        ("takes the low byte of a blank", low_byte),
+        ("gives 12 before 1 to 8", twelve_first),
+        ("places 1 to 7 one byte too far", one_too_far),
+        ("places 8 at the end", eight_at_the_end),
+        ("needs one byte more", needed_one_more),
+        ("refuses the length needed", room_to_spare),
+        ("writes one byte more", one_byte_more),
+        ("refuses, but writes what fits", writes_what_fits),
     ];
 }
 

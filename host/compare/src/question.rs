@@ -1,8 +1,8 @@
-//! What a call is asked: bytes, a part of them, or two inputs and lent buffers. Programs are asked,
-//! what they say is compared, and a question on which they differ can be made smaller.
+//! What a call is asked: bytes, a part of them, or one or two inputs and lent buffers. Programs are
+//! asked, what they say is compared, and a question on which they differ can be made smaller.
 
 use crate::shrink::{drop_entries, shrink, shrink_sheet};
-use crate::{hex, Lends, Outcome, Parts, Whole};
+use crate::{hex, Lends, Made, Makes, Outcome, Parts, Whole, WholeOf};
 use std::cell::Cell;
 use std::fmt;
 use std::sync::OnceLock;
@@ -100,7 +100,15 @@ pub struct Pair {
     pub second: Vec<u8>,
     pub rooms: Vec<usize>,
     /// what the model makes of them
-    pub whole: Result<Vec<u8>, model::Refusal>,
+    pub whole: Made,
+}
+
+/// One input and the lengths of the lent buffers, for `write` and `table`.
+pub struct Single {
+    pub bytes: Vec<u8>,
+    pub rooms: Vec<usize>,
+    /// what the model makes of it
+    pub whole: Made,
 }
 
 /// An outcome, and the buffer afterwards.
@@ -118,50 +126,68 @@ pub struct AllLent(pub Vec<Lent>);
 fn pattern(length: usize) -> &'static [u8] {
     static PATTERN: OnceLock<Vec<u8>> = OnceLock::new();
     let byte = |place: usize| (7 * place + place / 256 + 3) as u8;
-    &PATTERN.get_or_init(|| (0..24_000).map(byte).collect())[..length]
+    &PATTERN.get_or_init(|| (0..70_000).map(byte).collect())[..length]
 }
 
-/// How often a pair is tried in another form: two long inputs could take very long.
+/// Lengths of buffers: with room for the answer and without, and if there is none these.
+fn rooms(whole: &Made, if_refused: [usize; 4]) -> Vec<usize> {
+    let mut rooms = match whole {
+        Ok(answer) => {
+            let needed = answer.len();
+            let far = needed + 100 + needed % 3000;
+            vec![0, needed / 2, needed - 1, needed, needed + 1, far]
+        }
+        Err(_) => if_refused.to_vec(),
+    };
+    rooms.dedup();
+    rooms
+}
+
+/// What the model says with each lent buffer. That 12 comes last, and what is done to a buffer, is
+/// written here once more; tests hold it to the model's own 12.
+fn right(whole: &Made, rooms: &[usize]) -> AllLent {
+    lend_each(rooms, |buffer| match whole {
+        Err(refusal) => Outcome::refusal(refusal.number, refusal.place),
+        Ok(answer) if buffer.len() < answer.len() => Outcome::refusal(12, answer.len() as u32),
+        Ok(answer) => {
+            buffer[..answer.len()].copy_from_slice(answer);
+            Outcome::answer(answer.len(), 0)
+        }
+    })
+}
+
+/// Makes a call with each lent buffer.
+fn lend_each(rooms: &[usize], call: impl Fn(&mut [u8]) -> Outcome) -> AllLent {
+    let with = |&room: &usize| {
+        let mut buffer = pattern(room).to_vec();
+        let outcome = call(&mut buffer);
+        Lent { outcome, buffer }
+    };
+    AllLent(rooms.iter().map(with).collect())
+}
+
+fn in_words(rooms: &[usize]) -> String {
+    let rooms: Vec<String> = rooms.iter().map(usize::to_string).collect();
+    format!("{} bytes lent", rooms.join(", "))
+}
+
+/// How often a question is tried in another form: long inputs could take very long.
 const TRIES: usize = 10_000;
 
 impl Pair {
-    /// With buffers of each length that matters: with room for the answer and without, and if there
-    /// is none, of no byte and of more than any answer takes.
+    /// With buffers of each length that matters.
     pub fn new(first: Vec<u8>, second: Vec<u8>, whole: Whole) -> Pair {
         let whole = whole(&first, &second);
-        let mut rooms = match &whole {
-            Ok(answer) => {
-                let needed = answer.len();
-                let far = needed + 100 + needed % 3000;
-                vec![0, needed / 2, needed - 1, needed, needed + 1, far]
-            }
-            Err(_) => vec![0, 5, 2048, 17_000],
-        };
-        rooms.dedup();
         Pair {
             first,
             second,
-            rooms,
+            rooms: rooms(&whole, [0, 5, 2048, 17_000]),
             whole,
         }
     }
 
-    /// What the model says with each lent buffer. That 12 comes last, and what is done to a buffer,
-    /// is written here once more; a test holds it to the model's own 12.
     pub fn right(&self) -> AllLent {
-        let with = |&room: &usize| {
-            let mut buffer = pattern(room).to_vec();
-            let outcome = match &self.whole {
-                Err(refusal) => Outcome::refusal(refusal.number, refusal.place),
-                Ok(answer) if room < answer.len() => Outcome::refusal(12, answer.len() as u32),
-                Ok(answer) => {
-                    buffer[..answer.len()].copy_from_slice(answer);
-                    Outcome::answer(answer.len(), 0)
-                }
-            };
-            Lent { outcome, buffer }
-        };
-        AllLent(self.rooms.iter().map(with).collect())
+        right(&self.whole, &self.rooms)
     }
 
     /// The smallest found that differs, with the one buffer that shows it.
@@ -204,12 +230,7 @@ impl Question for Pair {
     type Said = AllLent;
 
     fn ask(&self, program: Lends) -> AllLent {
-        let with = |&room: &usize| {
-            let mut buffer = pattern(room).to_vec();
-            let outcome = program(&self.first, &self.second, &mut buffer);
-            Lent { outcome, buffer }
-        };
-        AllLent(self.rooms.iter().map(with).collect())
+        lend_each(&self.rooms, |out| program(&self.first, &self.second, out))
     }
 
     fn outcomes(said: &AllLent) -> Vec<Outcome> {
@@ -219,9 +240,72 @@ impl Question for Pair {
 
 impl fmt::Display for Pair {
     fn fmt(&self, out: &mut fmt::Formatter<'_>) -> fmt::Result {
-        let rooms: Vec<String> = self.rooms.iter().map(usize::to_string).collect();
         let (first, second) = (hex(&self.first), hex(&self.second));
-        write!(out, "{first} | {second} | {} bytes lent", rooms.join(", "))
+        write!(out, "{first} | {second} | {}", in_words(&self.rooms))
+    }
+}
+
+/// Makes an input smaller while it differs.
+pub type Shrink = fn(&[u8], &dyn Fn(&[u8]) -> bool) -> Vec<u8>;
+
+impl Single {
+    /// With buffers of each length that matters.
+    pub fn new(bytes: Vec<u8>, whole: WholeOf) -> Single {
+        let whole = whole(&bytes);
+        Single {
+            bytes,
+            rooms: rooms(&whole, [0, 14, 2048, 5000]),
+            whole,
+        }
+    }
+
+    pub fn right(&self) -> AllLent {
+        right(&self.whole, &self.rooms)
+    }
+
+    /// The smallest found that differs, with the one buffer that shows it.
+    pub fn smallest(
+        &self,
+        whole: WholeOf,
+        shrink: Shrink,
+        differs: &dyn Fn(&Single) -> bool,
+    ) -> Single {
+        let tries = Cell::new(0);
+        let small = shrink(&self.bytes, &|bytes| {
+            tries.set(tries.get() + 1);
+            tries.get() <= TRIES && differs(&Single::new(bytes.to_vec(), whole))
+        });
+        let small = Single::new(small, whole);
+        let with = |room| Single {
+            bytes: small.bytes.clone(),
+            rooms: vec![room],
+            whole: small.whole.clone(),
+        };
+        let telling = small
+            .rooms
+            .iter()
+            .map(|&room| with(room))
+            .find(|single| differs(single));
+        telling.expect("it differs with one of the buffers")
+    }
+}
+
+impl Question for Single {
+    type Program = Makes;
+    type Said = AllLent;
+
+    fn ask(&self, program: Makes) -> AllLent {
+        lend_each(&self.rooms, |out| program(&self.bytes, out))
+    }
+
+    fn outcomes(said: &AllLent) -> Vec<Outcome> {
+        said.0.iter().map(|lent| lent.outcome).collect()
+    }
+}
+
+impl fmt::Display for Single {
+    fn fmt(&self, out: &mut fmt::Formatter<'_>) -> fmt::Result {
+        write!(out, "{} | {}", hex(&self.bytes), in_words(&self.rooms))
     }
 }
 

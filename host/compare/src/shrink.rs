@@ -2,6 +2,7 @@
 //! it.
 
 use crate::cases::leb128;
+use crate::cases::table::Table;
 use std::ops::Range;
 
 /// Simplifies and drops bytes while the input differs.
@@ -48,6 +49,89 @@ pub fn drop_entries(input: &[u8], differs: impl Fn(&[u8]) -> bool) -> Vec<u8> {
             return bytes;
         }
     }
+}
+
+/// As `shrink`, for a table: first drops nodes, links, names and text, in each section as many at once
+/// as can be.
+pub fn shrink_table(input: &[u8], differs: impl Fn(&[u8]) -> bool) -> Vec<u8> {
+    let mut bytes = input.to_vec();
+    loop {
+        let before = bytes.len();
+        for section in 0..4 {
+            for size in sizes(before) {
+                let mut at = 0;
+                while let Some(smaller) = Table::apart(&bytes)
+                    .and_then(|table| without_entries(table, section, at, size))
+                    .map(|table| table.bytes())
+                {
+                    match differs(&smaller) {
+                        true => bytes = smaller,
+                        false => at += size,
+                    }
+                }
+            }
+        }
+        if bytes.len() == before {
+            break;
+        }
+    }
+    match bytes.len() {
+        0..=SHORT => shrink(&bytes, differs),
+        _ => bytes,
+    }
+}
+
+/// Longer tables are not changed byte by byte.
+const SHORT: usize = 512;
+
+/// The table without some entries of a section, if they are there. Its count is as wrong as it was, and
+/// the numbers of other entries fit.
+fn without_entries(mut table: Table, section: usize, at: usize, size: usize) -> Option<Table> {
+    let dropped = at..at + size;
+    // a number that counts entries: those after the dropped ones have another
+    let fitted = |number: &mut u16| {
+        let before = (*number as usize).saturating_sub(at).min(size);
+        *number -= before as u16;
+    };
+    let fit_range = |start: &mut u16, length: &mut u16| {
+        let mut end = start.saturating_add(*length);
+        fitted(start);
+        fitted(&mut end);
+        *length = end.saturating_sub(*start);
+    };
+    let count = [
+        table.nodes.len(),
+        table.links.len(),
+        table.names.len(),
+        table.text.len(),
+    ][section];
+    if at + size > count {
+        return None;
+    }
+    table.counts[section] = table.counts[section].wrapping_sub(size as u16);
+    match section {
+        0 => {
+            table.nodes.drain(dropped);
+            table.links.iter_mut().for_each(|link| fitted(&mut link.0));
+        }
+        1 => {
+            table.links.drain(dropped);
+            for node in table.nodes.iter_mut().filter(|node| node.is_list()) {
+                fit_range(&mut node.a, &mut node.b);
+            }
+        }
+        2 => {
+            table.names.drain(dropped);
+            table.links.iter_mut().for_each(|link| fitted(&mut link.1));
+        }
+        _ => {
+            table.text.drain(dropped);
+            for (start, length) in &mut table.names {
+                fit_range(start, length);
+            }
+        }
+    }
+    Some(table)
 }
 
 /// Longer inputs would take too long, byte by byte.

@@ -3,12 +3,14 @@
 //! down the call went. What an empty call takes is subtracted.
 
 use crate::cases::sheets::{equal, symbol_of, Sheet};
+use crate::cases::table::{chain, doubled, kind, largest, letters, m4_table, records, Node, Table};
 use crate::cases::{function, leb128, long, nested, record, symbol};
 use crate::Parts;
 
-/// What a call may take.
+/// What a call may take. `write` notes something of each of up to 6,144 nodes.
 pub const MOST_FOR_READ: usize = 4096;
 pub const MOST_FOR_ANOTHER: usize = 8192;
+pub const MOST_FOR_TABLES: usize = 32_768;
 
 /// Painted below the caller: far more than any call may take.
 const PAINTED: usize = 512 * 1024;
@@ -25,7 +27,7 @@ fn in_a_thread(call: &(dyn Fn(&mut [u8]) + Sync)) -> usize {
         std::thread::Builder::new()
             .stack_size(THREAD)
             .spawn_scoped(scope, || {
-                let mut out = vec![0; SHEET];
+                let mut out = vec![0; LONGEST];
                 call(&mut out); // what is set up at the first call only is not the call's
                 painted(call, &mut out)
             })
@@ -294,6 +296,138 @@ pub fn worst_for_join() -> Vec<Worst> {
     }
     inputs
 }
+
+/// The stored worst inputs for `write`: tables of 16 levels of each kind, wide and large ones, and some
+/// that are refused early or late.
+pub fn worst_for_write() -> Vec<(String, Vec<u8>)> {
+    // adds a node round the one before it, which is there: level by level
+    type Round<'a> = &'a dyn Fn(&mut Table, u16, u16) -> u16;
+    let levels = |name: &str, round: Round| {
+        let mut table = Table::new(&[(kind::BLANK, 40, 0)], &[], &[]);
+        table.push_name("\u{1F6A1}".repeat(20).as_bytes());
+        let inner = (0..15).fold(0, |inner, level| round(&mut table, inner, level));
+        assert_eq!(inner as usize + 1, table.nodes.len());
+        (name.to_string(), table.counted().bytes())
+    };
+    let many = |inner| [vec![(0, 0); 20], vec![(inner, 0)]].concat();
+    let rounds: [(&str, Round); 5] = [
+        ("15 Arrays", &|table, inner, _| {
+            table.push(kind::ARRAY, &[(inner, 0)])
+        }),
+        ("15 Maps", &|table, inner, _| {
+            table.push(kind::MAP, &[(0, 0), (inner, 0)])
+        }),
+        ("15 Records", &|table, inner, _| {
+            table.push(kind::RECORD, &[(inner, 0)])
+        }),
+        ("15 Functions of 20 blanks", &|table, inner, _| {
+            table.push(kind::FUNCTION, &many(inner))
+        }),
+        ("15 levels of all kinds", &|table, inner, level| {
+            let kind = [kind::ARRAY, kind::MAP, kind::RECORD, kind::FUNCTION][level as usize % 4];
+            match kind {
+                kind::MAP => table.push(kind, &[(inner, 0), (0, 0)]),
+                _ => table.push(kind, &[(inner, 0)]),
+            }
+        }),
+    ];
+    let mut inputs: Vec<(String, Vec<u8>)> = Vec::new();
+    for (name, round) in rounds {
+        inputs.push(levels(name, round));
+    }
+    let wide = |kind, links: u16| {
+        Table::new(
+            &[(kind::BLANK, 0, 0), (kind, 0, links)],
+            &vec![(0, 0); links as usize],
+            &[(0, 0)],
+        )
+    };
+    let broken = |mut table: Table, change: &dyn Fn(&mut Table)| {
+        change(&mut table);
+        table.bytes()
+    };
+    let fifteen = chain(15, Node::new(kind::BLANK, 0, 0));
+    let packed = function(2042, &[0x76; 2042], &[0x76]);
+    let mut packed_table = vec![0; LONGEST];
+    if let Ok(length) = crate::fast::table::table(&packed, &mut packed_table) {
+        packed_table.truncate(length);
+    }
+    let more: [(&str, Vec<u8>); 20] = [
+        ("no bytes", vec![]),
+        ("one Int", Table::new(&[(0, 0, 0)], &[], &[]).bytes()),
+        ("M4's table", m4_table().bytes()),
+        (
+            "Function of 2,041 blanks",
+            wide(kind::FUNCTION, 2042).bytes(),
+        ),
+        ("Record of 1,021 fields", wide(kind::RECORD, 1021).bytes()),
+        ("Symbol of 2,043 texts", wide(kind::SYMBOL, 2043).bytes()),
+        ("Symbol of 2,042 letters", letters(2042).bytes()),
+        ("Symbol of 2,043 letters", letters(2043).bytes()),
+        ("2,043 packed Maps", packed_table),
+        ("every section at its limit", largest([0; 4]).bytes()),
+        ("6,145 nodes", largest([1, 0, 0, 0]).bytes()),
+        ("100,000 bytes of 0", vec![0; 100_000]),
+        ("16 Arrays", chain(16, Node::new(kind::BLANK, 0, 0)).bytes()),
+        (
+            "6,143 Arrays",
+            chain(6143, Node::new(kind::BLANK, 0, 0)).bytes(),
+        ),
+        ("15 Maps of the same twice", doubled(15).bytes()),
+        ("39 Maps of the same twice", doubled(39).bytes()),
+        (
+            "200 Records of the same 2,000 links",
+            records(200, 2000).bytes(),
+        ),
+        (
+            "15 Arrays, the last broken",
+            broken(fifteen.clone(), &|table| table.links[14].0 = 15),
+        ),
+        (
+            "15 Arrays and a name that is not UTF-8",
+            broken(fifteen, &|table| {
+                table.push_name("\u{1F6A1}".repeat(500).as_bytes());
+                table.push_name(&[0xED, 0xA0, 0x80]);
+                *table = table.clone().counted();
+            }),
+        ),
+        (
+            "M4's table, a byte left over",
+            broken(m4_table(), &|table| table.left_over = vec![0]),
+        ),
+    ];
+    inputs.extend(more.map(|(name, bytes)| (name.to_string(), bytes)));
+    inputs
+}
+
+/// The stored worst inputs for `table`: those for `child` and `name`, the templates of 16 levels, and
+/// the largest tables.
+pub fn worst_for_table() -> Vec<(String, Vec<u8>)> {
+    let mut inputs = worst_for_parts();
+    for (name, bytes) in worst_templates() {
+        if inputs.iter().all(|(other, _)| *other != name) {
+            inputs.push((name, bytes));
+        }
+    }
+    inputs.extend([
+        ("2,043 packed Maps", function(2042, &[0x76; 2042], &[0x76])),
+        (
+            "14 levels of 128 packed Maps",
+            nested(14, &[0x02], |inner| function(128, &[0x76; 128], inner)),
+        ),
+        (
+            "Record of 1,021 packed Maps",
+            record(1021, &[0, 0x76].repeat(1021)),
+        ),
+    ]);
+    inputs
+        .into_iter()
+        .map(|(name, bytes)| (name.to_string(), bytes))
+        .collect()
+}
+
+/// No answer of any call is longer: that of the largest table.
+pub const LONGEST: usize = 61_448;
 
 /// What a board has for its whole job, and the longest sheet and shape that it can be lent.
 pub const BOARD: usize = 65_536;

@@ -1,8 +1,11 @@
-//! Models of `child` and `name` with one fault each, made from the answers of the fast ones. (Those
-//! of `read` are faults inside `fast`.)
+//! Models of `child`, `name`, `write` and `table` with one fault each, made from the answers of the fast
+//! ones. (Those of the other calls are faults inside `fast`.)
 
 use crate::cases::leb128;
-use crate::Outcome;
+use crate::{Makes, Outcome};
+
+pub mod table;
+pub mod write;
 
 const RECORD: u8 = 66;
 const FUNCTION: u8 = 67;
@@ -246,4 +249,63 @@ pub mod name {
     pub fn refuses_everything(_: &[u8], _: u64) -> Outcome {
         Outcome::refusal(18, 0)
     }
+}
+
+// -------------------------------------------------------------------------------------------------
+// Calls that are lent a buffer
+
+/// The answer, if there is room for it, or 12.
+fn lend(answer: &[u8], out: &mut [u8]) -> Outcome {
+    match out.get_mut(..answer.len()) {
+        Some(front) => {
+            front.copy_from_slice(answer);
+            Outcome::answer(answer.len(), 0)
+        }
+        None => Outcome::refusal(12, answer.len() as u32),
+    }
+}
+
+/// What is said whatever buffer is lent: a refusal with 12 if there is an answer.
+fn told(right: Makes, bytes: &[u8]) -> Outcome {
+    right(bytes, &mut [])
+}
+
+/// A refusal with one of these numbers, its place changed; all else as it is.
+fn placed(
+    right: Makes,
+    numbers: &[u32],
+    bytes: &[u8],
+    out: &mut [u8],
+    change: impl Fn(usize) -> usize,
+) -> Outcome {
+    let said = right(bytes, out);
+    match numbers.contains(&said.number) {
+        true => Outcome::refusal(said.number, change(said.place as usize) as u32),
+        false => said,
+    }
+}
+
+fn room_to_spare(right: Makes, bytes: &[u8], out: &mut [u8]) -> Outcome {
+    match told(right, bytes) {
+        short if short.number == 12 && short.place as usize == out.len() => short,
+        _ => right(bytes, out),
+    }
+}
+
+fn one_byte_more(right: Makes, bytes: &[u8], out: &mut [u8]) -> Outcome {
+    let said = right(bytes, out);
+    if let (0, Some(byte)) = (said.number, out.get_mut(said.length as usize)) {
+        *byte = 0;
+    }
+    said
+}
+
+fn writes_what_fits(right: Makes, bytes: &[u8], out: &mut [u8]) -> Outcome {
+    let said = right(bytes, out);
+    if said.number == 12 {
+        let mut all = vec![0; said.place as usize];
+        right(bytes, &mut all);
+        out.copy_from_slice(&all[..out.len()]);
+    }
+    said
 }

@@ -2,9 +2,11 @@
 
 use compare::cases::fills::{Chains, FillInputs, JoinInputs};
 use compare::cases::sheets::{symbol_of, SheetInputs};
+use compare::cases::table::{doubled, largest, m4_table, wrapping, Table, M4};
+use compare::cases::tables::{always_write, EncodingInputs, WriteInputs};
 use compare::cases::{any_k, Inputs, PartInputs};
 use compare::random::Random;
-use compare::{fill, join, read, sheet};
+use compare::{fill, join, read, sheet, table, write};
 
 #[test]
 fn same_seed_same_inputs() {
@@ -24,6 +26,12 @@ fn same_seed_same_inputs() {
     assert_eq!(inputs(1), inputs(1));
     assert_ne!(inputs(1), inputs(2));
     let inputs = |seed| Chains::new(seed).take(200).collect::<Vec<_>>();
+    assert_eq!(inputs(1), inputs(1));
+    assert_ne!(inputs(1), inputs(2));
+    let inputs = |seed| WriteInputs::new(seed).take(500).collect::<Vec<_>>();
+    assert_eq!(inputs(1), inputs(1));
+    assert_ne!(inputs(1), inputs(2));
+    let inputs = |seed| EncodingInputs::new(seed).take(500).collect::<Vec<_>>();
     assert_eq!(inputs(1), inputs(1));
     assert_ne!(inputs(1), inputs(2));
 }
@@ -148,4 +156,110 @@ fn fills_and_joins_at_the_limits() {
     for total in [0, 1, 16_383, 16_384] {
         assert!(totals.contains(&total), "no joined sheet of {total} bytes");
     }
+}
+
+#[test]
+fn the_cards_table() {
+    let bytes = m4_table().bytes();
+    assert_eq!(bytes.len(), 54);
+    assert_eq!(table::whole(&M4).unwrap(), bytes);
+    assert_eq!(write::whole(&bytes).unwrap(), M4);
+    assert_eq!(largest([0; 4]).bytes().len(), 71_688);
+    // 40 nodes that mean 2^39 blanks, and more bytes still
+    let doubled = doubled(39);
+    assert_eq!(doubled.nodes.len(), 40);
+    assert!(doubled.extent().0 > 1 << 39);
+}
+
+/// Tables that mean a little over 2^16 and 2^32 bytes.
+#[test]
+fn lengths_that_wrap() {
+    let lengths: Vec<u64> = wrapping().iter().map(|table| table.extent().0).collect();
+    assert_eq!(lengths, [65_540, 66_536, (1 << 32) + 5]);
+    for table in wrapping() {
+        assert_eq!(write::whole(&table.bytes()).unwrap_err().number, 16);
+    }
+}
+
+/// A table is taken apart and put together, and what its nodes mean is as long and deep as the model
+/// makes it.
+#[test]
+fn tables_apart() {
+    let mut answered = 0;
+    for bytes in WriteInputs::new(1).take(3000).chain(always_write()) {
+        let Some(table) = Table::apart(&bytes) else {
+            continue;
+        };
+        assert!(table.bytes() == bytes);
+        let (length, depth) = table.extent();
+        match write::whole(&bytes) {
+            Ok(encoding) => {
+                answered += 1;
+                let accepted = read::model(&encoding);
+                assert_eq!(accepted.length as u64, length);
+                assert_eq!(accepted.extra as u64, depth);
+            }
+            Err(refusal) if refusal.number == 15 => assert!(depth > 16),
+            Err(refusal) if refusal.number == 16 => assert!(length > 2048),
+            Err(_) => (),
+        }
+    }
+    assert!(answered > 1000, "{answered}");
+}
+
+/// Tables and encodings of the sizes at which a limit can be missed by one.
+#[test]
+fn tables_at_the_limits() {
+    let mut lengths = Vec::new();
+    let mut depths = [0; 20];
+    let mut sizes: [Vec<usize>; 4] = Default::default();
+    let mut shared = 0;
+    for bytes in WriteInputs::new(1).take(8000) {
+        let said = write::whole(&bytes);
+        let Some(table) = Table::apart(&bytes) else {
+            continue;
+        };
+        let counts = [
+            table.nodes.len(),
+            table.links.len(),
+            table.names.len(),
+            table.text.len(),
+        ];
+        (0..4).for_each(|section| sizes[section].push(counts[section]));
+        let (length, depth) = table.extent();
+        match said {
+            Ok(encoding) => {
+                lengths.push(length);
+                depths[depth as usize] += 1;
+                let own = table::whole(&encoding).unwrap();
+                shared += (own.len() > bytes.len()) as usize;
+            }
+            Err(refusal) if matches!(refusal.number, 15 | 16) => {
+                lengths.push(length);
+                depths[depth.min(19) as usize] += 1;
+            }
+            Err(_) => (),
+        }
+    }
+    for length in [1, 4, 5, 2046, 2047, 2048, 2049, 2050] {
+        assert!(lengths.contains(&length), "nothing of {length} bytes");
+    }
+    assert!(depths[1..].iter().all(|&times| times > 0), "{depths:?}");
+    for (section, most) in [6144, 6144, 2048, 2048].into_iter().enumerate() {
+        for count in [most - 1, most, most + 1] {
+            assert!(sizes[section].contains(&count), "{section}: no {count}");
+        }
+    }
+    assert!(shared > 300, "{shared}");
+}
+
+#[test]
+fn encodings_for_tables_are_mostly_accepted() {
+    let inputs = EncodingInputs::new(1).take(4000);
+    let made: Vec<usize> = inputs
+        .filter_map(|bytes| table::whole(&bytes).ok())
+        .map(|table| table.len())
+        .collect();
+    assert!(made.len() > 2000);
+    assert!(made.iter().any(|&length| length > 50_000));
 }

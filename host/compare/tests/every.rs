@@ -2,9 +2,11 @@
 
 use compare::cases::fills::{FillInputs, JoinInputs};
 use compare::cases::sheets::{equal, symbol_of, Sheet};
-use compare::cases::{function, leb128, long, record};
-use compare::question::{Pair, Question};
-use compare::{child, fill, join, name, read, sheet, Outcome};
+use compare::cases::table::{kind, m4_table, Node, Table};
+use compare::cases::tables::{EncodingInputs, WriteInputs};
+use compare::cases::{function, leb128, long, nested, record};
+use compare::question::{Pair, Question, Single};
+use compare::{child, fill, join, name, read, sheet, table, write, Outcome};
 
 fn agree(bytes: &[u8]) {
     let right = read::model(bytes);
@@ -41,6 +43,20 @@ fn joins_agree(first: &[u8], second: &[u8]) {
     let right = pair.right();
     assert!(pair.ask(join::proved) == right, "proved, on {pair}");
     assert!(pair.ask(join::fast::<0>) == right, "fast, on {pair}");
+}
+
+fn writes_agree(table: &[u8]) {
+    let single = Single::new(table.to_vec(), write::whole);
+    let right = single.right();
+    assert!(single.ask(write::proved) == right, "proved, on {single}");
+    assert!(single.ask(write::fast) == right, "fast, on {single}");
+}
+
+fn tables_agree(bytes: &[u8]) {
+    let single = Single::new(bytes.to_vec(), table::whole);
+    let right = single.right();
+    assert!(single.ask(table::proved) == right, "proved, on {single}");
+    assert!(single.ask(table::fast) == right, "fast, on {single}");
 }
 
 /// The first parts, and numbers that are far too large.
@@ -366,7 +382,169 @@ fn joins_of_small_sheets() {
     }
 }
 
-/// What `Pair` says of a short buffer is what the model itself says with that much room.
+/// Each number in the place of each count.
+#[test]
+fn tables_of_every_count() {
+    writes_agree(&[]);
+    let int = Table::new(&[(0, 0, 0)], &[], &[]);
+    for count in (0..=300).chain((0..=65_535).step_by(61)) {
+        for section in 0..4 {
+            for table in [&int, &m4_table()] {
+                let mut table = table.clone();
+                table.counts[section] = count;
+                writes_agree(&table.bytes());
+            }
+        }
+    }
+    // with entries for all of it, at and next to each limit
+    for (section, most) in [6144, 6144, 2048, 2048].into_iter().enumerate() {
+        for count in [most - 1, most, most + 1] {
+            let mut table = int.clone();
+            match section {
+                0 => table.nodes.resize(count, Node::new(0, 0, 0)),
+                1 => table.links.resize(count, (1, 1)),
+                2 => table.names.resize(count, (0, 0)),
+                _ => table.text.resize(count, 0xFF),
+            }
+            writes_agree(&table.counted().bytes());
+        }
+    }
+}
+
+/// Each byte of M4's table changed to each other.
+#[test]
+fn every_byte_of_a_table_changed() {
+    let bytes = m4_table().bytes();
+    for place in 0..bytes.len() {
+        for byte in 0..=255 {
+            let mut bytes = bytes.clone();
+            bytes[place] = byte;
+            writes_agree(&bytes);
+        }
+    }
+}
+
+/// A node of each kind, with each a and b and each sort of links.
+#[test]
+fn every_small_node() {
+    let targets = [(0, 0), (1, 0), (0, 1), (2, 0), (0, 2), (3, 3)];
+    for kind in 0..=11 {
+        for a in [0, 1, 2, 3, 31, 32, 65_534, 65_535] {
+            for b in [0, 1, 2, 3, 4, 65_535] {
+                let node = (kind, a, b);
+                // alone, before the root, and as the root
+                writes_agree(&Table::new(&[node], &[], &[]).bytes());
+                for link in targets {
+                    let links = [(0, 0), link, (1, 0)];
+                    for nodes in [[(0, 0, 0), node, (0, 0, 0)], [(0, 0, 0), (10, 7, 0), node]] {
+                        let table = Table::new(&nodes, &links, &[(0, 1), (1, 2)]);
+                        writes_agree(&table.with_text("a\u{E9}".as_bytes()).bytes());
+                    }
+                }
+            }
+        }
+    }
+}
+
+/// Each range of a short text, good or not.
+#[test]
+fn every_name_of_a_short_text() {
+    for text in ["a\u{E9}\u{20AC}\u{1F6A1}z".as_bytes(), b"a\xFFbc\xC3"] {
+        for start in (0..13).chain([65_535]) {
+            for length in (0..13).chain([65_535]) {
+                let nodes = [(kind::SYMBOL, 0, 1)];
+                let table = Table::new(&nodes, &[(0, 0)], &[(start, length)]);
+                writes_agree(&table.with_text(text).bytes());
+            }
+        }
+    }
+}
+
+/// Lists whose count takes one byte or two, of each kind.
+#[test]
+fn tables_of_lists_of_up_to_300() {
+    for count in (0..4).chain(126..131).chain([255, 256, 300]) {
+        for kind in [kind::RECORD, kind::FUNCTION, kind::SYMBOL] {
+            for name in [0, 1, 127, 128] {
+                let nodes = [(0, 0, 0), (kind, 0, count)];
+                let table = Table::new(&nodes, &vec![(0, 0); count as usize], &[(0, name)]);
+                writes_agree(&table.with_text(&vec![b'a'; name as usize]).bytes());
+            }
+        }
+    }
+}
+
+#[test]
+fn the_tables_of_every_input_of_up_to_two_bytes() {
+    tables_agree(&[]);
+    for first in 0..=255 {
+        tables_agree(&[first]);
+        for second in [0, 1, 0x20, 0xFF] {
+            tables_agree(&[first, second]);
+        }
+    }
+}
+
+#[test]
+fn the_tables_of_every_payload_of_telling_bytes() {
+    const TELLING: [u8; 12] = [0, 1, 2, 3, 31, 0x20, 0x24, 0x60, 0x76, 0x61, 0xC3, 0x7D];
+    for first in 64..=69 {
+        tables_agree(&[first, 0, 0]);
+        for a in TELLING {
+            tables_agree(&[first, 1, 0, a]);
+            for b in TELLING {
+                tables_agree(&[first, 2, 0, a, b]);
+                for c in TELLING {
+                    tables_agree(&[first, 3, 0, a, b, c]);
+                }
+            }
+        }
+    }
+}
+
+/// Lists in one another, whose counts and lengths take one byte or two.
+#[test]
+fn the_tables_of_lists_of_up_to_300() {
+    for count in (0..4usize).chain(126..131).chain([255, 256, 300]) {
+        let fields = [1, b'n', 0x76].repeat(count);
+        let texts = [leb128(count), [1, b't'].repeat(count)].concat();
+        for list in [
+            record(count, &fields),
+            function(count, &vec![0x60; count], &[0x45, 2, 0, 40, 1]),
+            long(0x44, &texts),
+        ] {
+            tables_agree(&list);
+            tables_agree(&nested(3, &list, |inner| {
+                record(2, &[&[1, b'a', 0x42, 1, 0, 0, 1, b'b'], inner].concat())
+            }));
+        }
+    }
+}
+
+/// What a table's check in the safe crate says is what the model's first refusals are.
+#[test]
+fn taken_apart_as_the_model_does() {
+    for bytes in WriteInputs::new(1).take(1500) {
+        let broken = match write::whole(&bytes) {
+            Err(refusal) if (9..=11).contains(&refusal.number) => {
+                Some((refusal.number, refusal.place))
+            }
+            _ => None,
+        };
+        match shiulbart::Table::parse(&bytes) {
+            Ok(table) => {
+                assert_eq!(broken, None);
+                assert!(table.to_bytes() == bytes);
+                // each part of it can be looked at
+                let words: usize = table.nodes().map(|node| format!("{node:?}").len()).sum();
+                assert!(words > 0 && table.names().all(|name| name.len() <= 2048));
+            }
+            Err(refusal) => assert_eq!(broken, Some((refusal.number(), refusal.place()))),
+        }
+    }
+}
+
+/// What `Pair` and `Single` say of a short buffer is what the model itself says with that much room.
 #[test]
 fn twelve_is_the_models_own() {
     let says = |said: Result<Vec<u8>, model::Refusal>| match said {
@@ -384,6 +562,19 @@ fn twelve_is_the_models_own() {
         let pair = Pair::new(first, second, join::whole);
         for (lent, &room) in pair.right().0.iter().zip(&pair.rooms) {
             let own = says(model::sheet::join(&pair.first, &pair.second, room));
+            assert_eq!(lent.outcome, own);
+        }
+    }
+    for bytes in WriteInputs::new(1).take(300) {
+        let single = Single::new(bytes, write::whole);
+        for (lent, &room) in single.right().0.iter().zip(&single.rooms) {
+            assert_eq!(lent.outcome, says(model::table::write(&single.bytes, room)));
+        }
+    }
+    for bytes in EncodingInputs::new(1).take(300) {
+        let single = Single::new(bytes, table::whole);
+        for (lent, &room) in single.right().0.iter().zip(&single.rooms) {
+            let own = says(model::table::to_table(&single.bytes, room));
             assert_eq!(lent.outcome, own);
         }
     }

@@ -1,11 +1,13 @@
 //! Every wrong model is told apart by a small input; the outcomes are those that 01-scope.md gives.
 
 use compare::cases::sheets::{equal, symbol_of, Sheet};
+use compare::cases::table::{chain, doubled, kind, letters, wrapping, Node, Table};
 use compare::cases::{function, long, nested, record, symbol};
-use compare::question::{Pair, Question};
+use compare::question::{Pair, Question, Shrink, Single};
 use compare::read::{self, WRONG};
-use compare::shrink::{shrink, shrink_sheet};
-use compare::{child, fill, join, name, sheet, Lends, Whole, WrongLends};
+use compare::shrink::{shrink, shrink_sheet, shrink_table};
+use compare::{child, fill, hex, join, name, sheet, table, write};
+use compare::{Lends, Makes, Whole, WholeOf, WrongLends, WrongMakes};
 
 #[test]
 fn each_differs_on_a_small_input() {
@@ -545,4 +547,424 @@ fn a_difference_in_a_pair_is_made_small() {
     let wins = find(&join::WRONG, "takes the second's where both have");
     let small = smallest(wins, join::whole, &sheet, &equal(12, &symbol_of(100)));
     assert!(small.first.len() <= 9 && small.second.len() <= 9, "{small}");
+}
+
+/// As `told_apart_by`, for a call that takes one input.
+fn made_apart_by(
+    wrong: &[WrongMakes],
+    [proved, fast]: [Makes; 2],
+    whole: WholeOf,
+    cases: Vec<(Vec<u8>, usize, String, String)>,
+) {
+    assert_eq!(cases.len(), wrong.len());
+    for ((bytes, room, right, said), (fault, model)) in cases.into_iter().zip(wrong) {
+        let mut single = Single::new(bytes, whole);
+        single.rooms = vec![room];
+        assert_eq!(single.right().to_string(), right, "{fault}");
+        assert_eq!(single.ask(proved).to_string(), right, "{fault}");
+        assert_eq!(single.ask(fast).to_string(), right, "{fault}");
+        assert_eq!(single.ask(*model).to_string(), said, "{fault}");
+    }
+}
+
+/// A case of it.
+fn case(bytes: &[u8], room: usize, right: &str, said: &str) -> (Vec<u8>, usize, String, String) {
+    (bytes.to_vec(), room, right.to_string(), said.to_string())
+}
+
+#[test]
+fn each_of_write_differs_on_a_small_input() {
+    type Pairs<'a> = &'a [(u16, u16)];
+    let table = |nodes: &[(u8, u16, u16)], links: Pairs, names: Pairs, text: &[u8]| {
+        Table::new(nodes, links, names).with_text(text).bytes()
+    };
+    let nodes = |nodes: &[(u8, u16, u16)]| table(nodes, &[], &[], &[]);
+    let int = || Table::new(&[(0, 0, 0)], &[], &[]);
+    let changed = |mut table: Table, change: fn(&mut Table)| {
+        change(&mut table);
+        table.counted().bytes()
+    };
+    let second = || {
+        let mut table = int();
+        table.nodes[0].second = 1;
+        table.bytes()
+    };
+    let left_over = || [&int().bytes()[..], &[0]].concat();
+    let blank = Node::new(kind::BLANK, 0, 0);
+    let root_int = |table: Table| changed(table, |table| table.nodes.push(Node::new(0, 0, 0)));
+    let one = [(0, 0)];
+    let both = [(0, 0), (1, 0)];
+    let twice = [(0, 0), (0, 0)];
+    let wraps = wrapping();
+    let cases = [
+        (int().bytes(), 1, "ok 1 0 [20]", "no 9 0 [03]"),
+        (nodes(&[(10, 0, 0)]), 1, "ok 1 0 [00]", "ok 1 0 [20]"),
+        (
+            nodes(&[(0, 0, 0), (2, 0, 0)]),
+            1,
+            "ok 1 0 [22]",
+            "ok 1 0 [20]",
+        ),
+        (
+            changed(int(), |table| table.nodes = vec![table.nodes[0]; 6145]),
+            1,
+            "no 9 0 [03]",
+            "ok 1 0 [20]",
+        ),
+        (
+            changed(int(), |table| table.links = vec![(0, 0); 6145]),
+            1,
+            "no 9 8 [03]",
+            "ok 1 0 [20]",
+        ),
+        (
+            changed(int(), |table| table.names = vec![(0, 0); 2049]),
+            1,
+            "no 9 10 [03]",
+            "ok 1 0 [20]",
+        ),
+        (
+            changed(int(), |table| table.text = vec![0; 2049]),
+            1,
+            "no 9 12 [03]",
+            "ok 1 0 [20]",
+        ),
+        (left_over(), 1, "no 9 14 [03]", "ok 1 0 [20]"),
+        (nodes(&[(11, 0, 0)]), 1, "no 10 0 [03]", "ok 1 0 [00]"),
+        (second(), 1, "no 10 0 [03]", "ok 1 0 [20]"),
+        (nodes(&[(0, 1, 0)]), 1, "no 10 0 [03]", "ok 1 0 [20]"),
+        (nodes(&[(10, 0, 1)]), 1, "no 10 0 [03]", "ok 1 0 [00]"),
+        (
+            table(&[(0, 0, 0), (5, 0, 2)], &twice, &[], &[]),
+            1,
+            "no 10 1 [03]",
+            "ok 1 0 [60]",
+        ),
+        (nodes(&[(8, 0, 0)]), 1, "no 10 0 [03]", "ok 1 0 [20]"),
+        (nodes(&[(5, 65_535, 1)]), 1, "no 10 0 [03]", "ok 1 0 [20]"),
+        (
+            nodes(&[(7, 1, 0)]),
+            4,
+            "no 10 0 [03 0A 11 18]",
+            "ok 4 0 [42 01 00 00]",
+        ),
+        (
+            table(&[(0, 0, 0), (5, 0, 1)], &[(1, 0)], &[], &[]),
+            1,
+            "no 10 1 [03]",
+            "ok 1 0 [60]",
+        ),
+        (
+            table(&[(0, 0, 0), (9, 0, 1)], &[(1, 0)], &one, &[]),
+            5,
+            "no 10 1 [03 0A 11 18 1F]",
+            "ok 5 0 [44 02 00 01 00]",
+        ),
+        (
+            table(&[(9, 0, 1)], &one, &[], &[]),
+            5,
+            "no 10 0 [03 0A 11 18 1F]",
+            "ok 5 0 [44 02 00 01 00]",
+        ),
+        (
+            table(&[(0, 0, 0), (5, 0, 1)], &[(0, 1)], &[], &[]),
+            1,
+            "no 10 1 [03]",
+            "ok 1 0 [60]",
+        ),
+        (
+            table(&[(0, 0, 0)], &[(1, 0)], &[], &[]),
+            1,
+            "ok 1 0 [20]",
+            "no 10 0 [03]",
+        ),
+        (
+            nodes(&[(11, 0, 0), (0, 0, 0)]),
+            1,
+            "no 10 0 [03]",
+            "ok 1 0 [20]",
+        ),
+        (
+            table(&[(0, 0, 0)], &[], &[(1, 0)], &[]),
+            1,
+            "no 11 0 [03]",
+            "ok 1 0 [20]",
+        ),
+        (
+            table(&[(0, 0, 0)], &[], &[], &[0xFF]),
+            1,
+            "ok 1 0 [20]",
+            "no 11 0 [03]",
+        ),
+        (
+            table(&[(0, 0, 0)], &[], &[(0, 1)], &[0xC3, 0xA9]),
+            1,
+            "no 11 0 [03]",
+            "ok 1 0 [20]",
+        ),
+        (
+            table(&[(11, 0, 0)], &[], &[(1, 0)], &[]),
+            0,
+            "no 10 0",
+            "no 11 0",
+        ),
+        (
+            table(&[(0, 0, 0)], &[], &[(0, 1), (2, 0)], &[0xFF]),
+            0,
+            "no 11 0",
+            "no 11 1",
+        ),
+        (doubled(39).bytes(), 0, "no 15 0", "no 16 0"),
+        (doubled(15).bytes(), 0, "no 16 0", "no 12 131069"),
+        (chain(16, blank).bytes(), 0, "no 15 0", "no 12 49"),
+        (letters(2043).bytes(), 0, "no 16 0", "no 12 2049"),
+        (root_int(chain(16, blank)), 1, "ok 1 0 [20]", "no 15 0 [03]"),
+        (root_int(letters(2043)), 1, "ok 1 0 [20]", "no 16 0 [03]"),
+        (wraps[0].bytes(), 0, "no 16 0", "no 12 4"),
+        (wraps[2].bytes(), 0, "no 16 0", "no 12 5"),
+        (left_over(), 0, "no 9 14", "no 9 12"),
+        (vec![1, 0, 0], 0, "no 9 0", "no 9 3"),
+        (vec![1], 0, "no 9 0", "no 9 1"),
+        (nodes(&[(0, 0, 0), (11, 0, 0)]), 0, "no 10 1", "no 10 8"),
+        (nodes(&[(5, 2, 1)]), 0, "no 10 0", "no 10 2"),
+        (
+            table(&[(0, 0, 0)], &[], &[(1, 0)], &[]),
+            0,
+            "no 11 0",
+            "no 11 12",
+        ),
+        (chain(16, blank).bytes(), 0, "no 15 0", "no 15 16"),
+        (
+            table(&[(0, 0, 0), (5, 0, 1)], &one, &[], &[]),
+            1,
+            "ok 1 0 [60]",
+            "no 12 4 [03]",
+        ),
+        (
+            table(&[(0, 0, 0), (6, 0, 2)], &twice, &[], &[]),
+            1,
+            "ok 1 0 [65]",
+            "no 12 5 [03]",
+        ),
+        (
+            table(&[(0, 0, 0), (1, 0, 0), (6, 0, 2)], &both, &[], &[]),
+            1,
+            "ok 1 0 [66]",
+            "ok 1 0 [6A]",
+        ),
+        (nodes(&[(10, 0, 0)]), 1, "ok 1 0 [00]", "no 12 5 [03]"),
+        (
+            table(&[(0, 0, 0), (1, 0, 0), (8, 0, 2)], &both, &[], &[]),
+            6,
+            "ok 6 0 [43 03 00 01 20 21]",
+            "ok 6 0 [43 03 00 01 21 20]",
+        ),
+        (
+            table(&[(0, 0, 0), (8, 0, 1)], &one, &[], &[]),
+            5,
+            "ok 5 0 [43 02 00 00 20]",
+            "ok 5 0 [43 02 00 01 20]",
+        ),
+        (
+            doubled(1).bytes(),
+            5,
+            "ok 5 0 [41 02 00 00 00]",
+            "ok 4 0 [41 01 00 00 1F]",
+        ),
+        (int().bytes(), 0, "no 12 1", "no 12 2"),
+        (int().bytes(), 1, "ok 1 0 [20]", "no 12 1 [03]"),
+        (int().bytes(), 2, "ok 1 0 [20 0A]", "ok 1 0 [20 00]"),
+        (
+            doubled(1).bytes(),
+            3,
+            "no 12 5 [03 0A 11]",
+            "no 12 5 [41 02 00]",
+        ),
+    ];
+    let cases = cases.map(|(bytes, room, right, said)| case(&bytes, room, right, said));
+    let programs = [write::proved, write::fast];
+    made_apart_by(&write::WRONG, programs, write::whole, cases.into());
+}
+
+#[test]
+fn each_of_table_differs_on_a_small_input() {
+    let table = |nodes: &[(u8, u16, u16)], links: &[(u16, u16)]| Table::new(nodes, links, &[]);
+    let int = hex(&table(&[(0, 0, 0)], &[]).bytes());
+    // a Record of `a`, a Symbol of `b`
+    let symbol_in_record = record(1, &[&[1, b'a'], &symbol(b"b")[..]].concat());
+    let in_record = |links: &[(u16, u16)], names: &[(u16, u16)], text: &[u8]| {
+        Table::new(&[(9, 0, 1), (7, 1, 1)], links, names).with_text(text)
+    };
+    let right_in_record = in_record(&[(0, 0), (0, 1)], &[(0, 1), (1, 1)], b"ba");
+    // a Function of an Array of Int that returns an empty list
+    let after_links = |list: u8| function(1, &[0x60], &[list, 1, 0, 0]);
+    let with_empty = |kind: u8, a: u16| {
+        let nodes = [(0, 0, 0), (5, 0, 1), (kind, a, 0), (8, 1, 2)];
+        table(&nodes, &[(0, 0), (1, 0), (2, 0)])
+    };
+    let array = table(&[(0, 0, 0), (5, 0, 1)], &[(0, 0)]);
+    // two nodes, and one that has both
+    let pair = |one: u8, other: u8, kind: u8, links: &[(u16, u16)]| {
+        table(&[(one, 0, 0), (other, 0, 0), (kind, 0, 2)], links)
+    };
+    let both = [(0, 0), (1, 0)];
+    let function = || function(1, &[0x20], &[0x21]);
+    let texts = |links: &[(u16, u16)], names: &[(u16, u16)], text: &[u8]| {
+        Table::new(&[(9, 0, links.len() as u16)], links, names).with_text(text)
+    };
+    let map_to_symbol = |target: u16| {
+        let nodes = [(0, 0, 0), (9, 0, 1), (6, 1, 2)];
+        let links = [(target, 0), (0, 0), (1, 0)];
+        Table::new(&nodes, &links, &[(0, 1)]).with_text(b"b")
+    };
+    // an encoding, its table, and that of the wrong model; the buffer has room for the first
+    type Tables = (Vec<u8>, Table, Table);
+    let made: [Tables; 15] = [
+        (
+            symbol_in_record.clone(),
+            right_in_record.clone(),
+            in_record(&[(0, 1), (0, 0)], &[(0, 1), (1, 1)], b"ab"),
+        ),
+        (after_links(0x42), with_empty(7, 1), with_empty(7, 0)),
+        (after_links(0x44), with_empty(9, 1), with_empty(9, 0)),
+        (
+            vec![0x60],
+            array.clone(),
+            table(&[(5, 0, 1), (0, 0, 0)], &[(1, 0)]),
+        ),
+        (
+            long(0x40, &[0x60]),
+            table(&[(0, 0, 0), (5, 0, 1), (5, 1, 1)], &[(0, 0), (1, 0)]),
+            table(&[(0, 0, 0), (5, 1, 1), (5, 0, 1)], &[(1, 0), (0, 0)]),
+        ),
+        (
+            vec![0x66],
+            pair(0, 1, 6, &both),
+            pair(1, 0, 6, &[(1, 0), (0, 0)]),
+        ),
+        (
+            vec![0x65],
+            pair(0, 0, 6, &both),
+            table(&[(0, 0, 0), (6, 0, 2)], &[(0, 0), (0, 0)]),
+        ),
+        (
+            long(0x44, &[2, 1, b'a', 1, b'a']),
+            texts(&[(0, 0), (0, 1)], &[(0, 1), (1, 1)], b"aa"),
+            texts(&[(0, 0), (0, 0)], &[(0, 1)], b"a"),
+        ),
+        (
+            long(0x41, &[&[0x20], &symbol(b"b")[..]].concat()),
+            map_to_symbol(0),
+            map_to_symbol(1),
+        ),
+        (vec![0x60], array, table(&[(5, 0, 0)], &[])),
+        (vec![0x66], pair(0, 1, 6, &both), pair(1, 0, 6, &both)),
+        (function(), pair(0, 1, 8, &both), pair(1, 0, 8, &both)),
+        (
+            function(),
+            pair(0, 1, 8, &both),
+            pair(0, 1, 8, &[(0, 0), (1, 1)]),
+        ),
+        (
+            symbol_in_record,
+            right_in_record,
+            in_record(&[(0, 0), (0, 1)], &[(0, 1), (0, 1)], b"ba"),
+        ),
+        (
+            symbol(b"b"),
+            texts(&[(0, 0)], &[(0, 1)], b"b"),
+            texts(&[(0, 0)], &[(0, 2)], &[1, b'b']),
+        ),
+    ];
+    let said = |table: &Table, room: usize| {
+        let bytes = table.bytes();
+        let pattern = (0..room).map(|place| (7 * place + 3) as u8);
+        let (number, front) = match bytes.len() {
+            length if length > room => (format!("no 12 {length}"), &[][..]),
+            length => (format!("ok {length} 0"), &bytes[..]),
+        };
+        let rest: Vec<u8> = pattern.skip(front.len()).collect();
+        format!("{number} [{}]", hex(&[front, &rest].concat()))
+    };
+    let made = made.iter().map(|(bytes, right, wrong)| {
+        let room = right.bytes().len();
+        case(bytes, room, &said(right, room), &said(wrong, room))
+    });
+    let blank = |number: u16| said(&table(&[(10, number, 0)], &[]), 14);
+    let mut cases = vec![
+        case(&[0x20], 0, "no 12 14", "no 1 0"),
+        case(&[0x60], 0, "no 12 24", "no 12 14"),
+    ];
+    cases.extend(made);
+    cases.extend([
+        case(&long(0x45, &[0, 1]), 14, &blank(256), &blank(0)),
+        case(&[], 0, "no 1 0", "no 12 14"),
+        case(&[], 0, "no 1 0", "no 1 1"),
+        case(&[0; 2050], 0, "no 8 2048", "no 8 2050"),
+        case(&[0x20], 0, "no 12 14", "no 12 15"),
+        case(
+            &[0x20],
+            14,
+            &format!("ok 14 0 [{int}]"),
+            "no 12 14 [03 0A 11 18 1F 26 2D 34 3B 42 49 50 57 5E]",
+        ),
+        case(
+            &[0x20],
+            15,
+            &format!("ok 14 0 [{int} 65]"),
+            &format!("ok 14 0 [{int} 00]"),
+        ),
+        case(&[0x20], 3, "no 12 14 [03 0A 11]", "no 12 14 [01 00 00]"),
+    ]);
+    let programs = [table::proved, table::fast];
+    made_apart_by(&table::WRONG, programs, table::whole, cases);
+}
+
+#[test]
+fn a_difference_in_a_table_is_made_small() {
+    let find =
+        |all: &[WrongMakes], fault: &str| *all.iter().find(|(name, _)| *name == fault).unwrap();
+    let smallest = |(_, wrong): WrongMakes, whole: WholeOf, shrink: Shrink, bytes: &[u8]| {
+        let differs = |single: &Single| single.ask(wrong) != single.right();
+        let single = Single::new(bytes.to_vec(), whole);
+        assert!(differs(&single));
+        single.smallest(whole, shrink, &differs)
+    };
+    let of_table: Shrink = |bytes, differs| shrink_table(bytes, differs);
+    let of_bytes: Shrink = |bytes, differs| shrink(bytes, differs);
+    // an Array of Int in a Record of a hundred fields, with much that is not used
+    let mut large = Table::new(&[(0, 0, 0)], &[(9, 9); 50], &[(0, 0); 60]);
+    for i in 0..100 {
+        large.push_name(format!("field {i}").as_bytes());
+    }
+    let array = large.push(kind::ARRAY, &[(0, 0)]);
+    let fields: Vec<(u16, u16)> = (0..100).map(|i| (array * (i % 2), 60 + i)).collect();
+    large.push(kind::RECORD, &fields);
+    let large = large.counted().bytes();
+    let keeps = find(&write::WRONG, "keeps the long Array");
+    let small = smallest(keeps, write::whole, of_table, &large);
+    assert_eq!(small.bytes.len(), 24, "{small}");
+    assert_eq!(small.rooms.len(), 1);
+    // one byte too deep, and a difference in a section's count
+    let deep = find(&write::WRONG, "makes level 17");
+    let small = smallest(
+        deep,
+        write::whole,
+        of_table,
+        &chain(16, Node::new(10, 7, 0)).bytes(),
+    );
+    assert!(small.bytes.len() <= 174, "{small}");
+    let over = find(&write::WRONG, "takes bytes left over");
+    let long = [&large[..], &[0; 300]].concat();
+    let small = smallest(over, write::whole, of_table, &long);
+    assert_eq!(small.bytes.len(), 15, "{small}");
+    // names of a Record round another
+    let first = find(&table::WRONG, "adds a Record's names first");
+    let inner = record(2, &[3, b'o', b'n', b'e', 0x20, 1, b'a', 0x60]);
+    let outer = record(
+        2,
+        &[&[2, b'n', b'o'], &inner[..], &[1, b'z', 0x76]].concat(),
+    );
+    let small = smallest(first, table::whole, of_bytes, &outer);
+    assert!(small.bytes.len() <= 13, "{small}");
 }

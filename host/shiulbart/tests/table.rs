@@ -529,6 +529,18 @@ fn sharing_is_written_out() {
     raw.gives(&[0x22]);
 }
 
+/// 38 million steps, and no more: each node is looked at once, with all of its links.
+#[test]
+fn nodes_times_links() {
+    let mut raw = Raw::new(&[(0, 0, 0)], &[], &[(0, 0)]);
+    raw.nodes.resize(6144, (7, 0, 0, 6144));
+    raw.links = vec![(0, 0); 6144];
+    let mut out = pattern(2048);
+    let refusal = Refusal::new(MadeTooLong, 0);
+    assert_eq!(write(&raw.bytes(), &mut out), Err(refusal));
+    assert!(out == pattern(2048), "changed by a refusal");
+}
+
 /// Sums of 2^16 and 2^32 bytes and a little more are no short ones.
 #[test]
 fn lengths_do_not_wrap() {
@@ -846,7 +858,7 @@ fn a_full_table_says_so() {
 
     let mut table = Table::new();
     let int = table.push_primitive(Primitive::Int).unwrap();
-    let ints = |count: usize| std::iter::repeat(int).take(count);
+    let ints = |count: usize| vec![int; count];
     let before = table.clone();
     let full = Err(TableError::TooManyLinks);
     assert_eq!(table.push_function(ints(Table::MAX_LINKS), int), full);
@@ -864,8 +876,7 @@ fn a_full_table_says_so() {
     let full = Err(TableError::TooManyNames);
     assert_eq!(table.push_symbol(std::iter::repeat("")), full);
     assert_eq!(table, Table::new());
-    let most = std::iter::repeat("").take(Table::MAX_NAMES);
-    table.push_symbol(most).unwrap();
+    table.push_symbol([""; Table::MAX_NAMES]).unwrap();
     assert_eq!(table.push_symbol([""]), full);
     assert_eq!(Table::parse(&table.to_bytes()).unwrap(), table);
     assert_eq!(table.encode().unwrap_err(), Refusal::new(MadeTooLong, 0));

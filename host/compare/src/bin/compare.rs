@@ -2,13 +2,17 @@
 
 use compare::cases::fills::{Chains, FillInputs, JoinInputs};
 use compare::cases::sheets::SheetInputs;
+use compare::cases::tables::{EncodingInputs, WriteInputs};
 use compare::cases::{any_k, Inputs, PartInputs};
 use compare::fast::sheet::{check, Rule};
-use compare::question::{Bytes, Pair, Part, Question};
+use compare::fast::write as fast_write;
+use compare::question::{Bytes, Pair, Part, Question, Single};
 use compare::random::Random;
 use compare::read::{self, WRONG};
-use compare::shrink::{shrink, shrink_sheet};
-use compare::{cases, child, fill, hex, join, name, sheet, Outcome, Parts, Whole};
+use compare::shrink::{shrink, shrink_sheet, shrink_table};
+use compare::{
+    cases, child, fill, hex, join, name, sheet, table, write, Outcome, Parts, Whole, WholeOf,
+};
 use std::process::ExitCode;
 use std::time::{Duration, Instant};
 
@@ -24,6 +28,7 @@ const READ_CASES: usize = 200_000;
 const PARTS_CASES: usize = 20_000;
 const SHEET_CASES: usize = 20_000;
 const PAIR_CASES: usize = 20_000;
+const TABLE_CASES: usize = 20_000;
 const CHAINS: usize = 4_000;
 
 /// The numbers of the wrong models: those of `child` follow those of `read`, and so on.
@@ -32,7 +37,9 @@ const WRONG_NAME: usize = WRONG_CHILD + child::WRONG.len();
 const WRONG_SHEET: usize = WRONG_NAME + name::WRONG.len();
 const WRONG_FILL: usize = WRONG_SHEET + sheet::WRONG.len();
 const WRONG_JOIN: usize = WRONG_FILL + fill::WRONG.len();
-const ALL_WRONG: usize = WRONG_JOIN + join::WRONG.len();
+const WRONG_WRITE: usize = WRONG_JOIN + join::WRONG.len();
+const WRONG_TABLE: usize = WRONG_WRITE + write::WRONG.len();
+const ALL_WRONG: usize = WRONG_TABLE + table::WRONG.len();
 
 /// The numbers that a refusal of each call can carry.
 const READ_NUMBERS: [usize; 8] = [1, 2, 3, 4, 5, 6, 7, 8];
@@ -40,6 +47,8 @@ const PARTS_NUMBERS: [usize; 9] = [1, 2, 3, 4, 5, 6, 7, 8, 18];
 const SHEET_NUMBERS: [usize; 1] = [13];
 const FILL_NUMBERS: [usize; 12] = [1, 2, 3, 4, 5, 6, 7, 8, 12, 13, 15, 16];
 const JOIN_NUMBERS: [usize; 6] = [12, 13, 14, 15, 16, 17];
+const WRITE_NUMBERS: [usize; 6] = [9, 10, 11, 12, 15, 16];
+const TABLE_NUMBERS: [usize; 9] = [1, 2, 3, 4, 5, 6, 7, 8, 12];
 
 /// What the gate's cases, or more, must hold for the comparison to mean something.
 const LEAST_OF_A_NUMBER: usize = 100;
@@ -515,55 +524,197 @@ fn compare_join(options: &Options, count: &mut Count) {
     compare_pairs(&call, join::whole, fixed, generated, options, count);
 }
 
-/// What must hold over whole answers of the proved calls, whatever they are: filling twice is filling
-/// with the joined sheet, it does not matter which two of three sheets are joined first, and the empty
-/// sheet changes nothing. Where the first stage is answered, the refusals must be the same, too.
+/// Compares `write` or `table`, with several lent buffers for each input.
+fn compare_singles(
+    call: &Call<Single>,
+    whole: WholeOf,
+    fixed: Vec<Vec<u8>>,
+    generated: impl Iterator<Item = Vec<u8>>,
+    options: &Options,
+    count: &mut Count,
+) {
+    let single = |bytes| Single::new(bytes, whole);
+    let fixed = fixed.into_iter().map(single).collect();
+    compare(call, fixed, generated.map(single), options, count);
+}
+
+fn compare_write(options: &Options, count: &mut Count) {
+    const RULES: usize = fast_write::Rule::ALL.len();
+    let mut sorts: Vec<String> = fast_write::Rule::ALL.map(String::from).into();
+    sorts.extend(["answered: as the way back makes it", "answered: another"].map(String::from));
+    let call = Call::<Single> {
+        name: "write",
+        proved: write::proved,
+        fast: write::fast,
+        model: Single::right,
+        wrong: &write::WRONG,
+        wrong_before: WRONG_WRITE,
+        gate: TABLE_CASES,
+        numbers: &WRITE_NUMBERS,
+        smallest: |single, differs| {
+            let shrink =
+                |bytes: &[u8], differs: &dyn Fn(&[u8]) -> bool| shrink_table(bytes, differs);
+            single.smallest(write::whole, shrink, differs)
+        },
+        head: ["9 to 11, as the fast writer sees it", "cases"],
+        sorts,
+        sort: |single, _| match (&single.whole, fast_write::check(&single.bytes)) {
+            (Ok(answer), _) => {
+                let own = table::whole(answer).is_ok_and(|own| own == single.bytes);
+                Some(RULES + !own as usize)
+            }
+            (_, Err(broken)) => Some(broken.rule as usize),
+            _ => None,
+        },
+        every_sort: true,
+    };
+    let generated = WriteInputs::new(options.seed);
+    let fixed = cases::tables::always_write();
+    compare_singles(&call, write::whole, fixed, generated, options, count);
+}
+
+fn compare_table(options: &Options, count: &mut Count) {
+    let call = Call::<Single> {
+        name: "table",
+        proved: table::proved,
+        fast: table::fast,
+        model: Single::right,
+        wrong: &table::WRONG,
+        wrong_before: WRONG_TABLE,
+        gate: TABLE_CASES,
+        numbers: &TABLE_NUMBERS,
+        smallest: |single, differs| {
+            let shrink = |bytes: &[u8], differs: &dyn Fn(&[u8]) -> bool| shrink(bytes, differs);
+            single.smallest(table::whole, shrink, differs)
+        },
+        head: ["bytes of the table", "answers"],
+        sorts: ["14", "under 100", "under 1,000", "under 10,000", "more"]
+            .map(String::from)
+            .into(),
+        sort: |single, _| match single.whole.as_ref().ok()?.len() {
+            0..=14 => Some(0),
+            15..=99 => Some(1),
+            100..=999 => Some(2),
+            1000..=9999 => Some(3),
+            _ => Some(4),
+        },
+        every_sort: true,
+    };
+    let generated = EncodingInputs::new(options.seed);
+    let fixed = cases::tables::always_table();
+    compare_singles(&call, table::whole, fixed, generated, options, count);
+}
+
+/// What a proved call says that makes a `Vec`.
+type Told = Result<Vec<u8>, shiulbart::Refusal>;
+
+/// Laws over whole answers of the proved calls: how often each was looked at, and how often something
+/// was answered.
+struct Laws<'a, const N: usize> {
+    looked_at: [(&'static str, usize, usize); N],
+    count: &'a mut Count,
+    shown: usize,
+    start: Instant,
+}
+
+impl<'a, const N: usize> Laws<'a, N> {
+    fn new(laws: [&'static str; N], count: &'a mut Count) -> Laws<'a, N> {
+        Laws {
+            looked_at: laws.map(|law| (law, 0, 0)),
+            count,
+            shown: 0,
+            start: Instant::now(),
+        }
+    }
+
+    /// Two answers or refusals that must be the same, and the inputs that they are for.
+    fn look(&mut self, which: usize, left: Told, right: Told, on: &[&[u8]]) {
+        let (law, times, answered) = &mut self.looked_at[which];
+        *times += 1;
+        *answered += left.is_ok() as usize;
+        self.count.of(left == right);
+        if left != right && self.shown < SHOWN {
+            self.shown += 1;
+            println!("{law}: {left:02X?} and {right:02X?}");
+            let on: Vec<String> = on.iter().map(|bytes| hex(bytes)).collect();
+            println!("  on {}", on.join(" | "));
+        }
+    }
+
+    fn print(self, inputs: &str, all: usize, options: &Options) {
+        let seconds = self.start.elapsed().as_secs_f64();
+        println!(
+            "laws: {all} {inputs}, seed {}, {seconds:.1} s",
+            options.seed
+        );
+        for (law, times, answered) in self.looked_at {
+            println!("  {law:>16}: looked at {times:>6} times, {answered:>6} of them answered");
+            if all >= CHAINS && answered < all / LEAST_ANSWERED {
+                println!("laws: {law}: under 1 case in {LEAST_ANSWERED} was answered");
+                self.count.failed += 1;
+            }
+        }
+    }
+}
+
+/// What must hold of `fill` and `join`, whatever they answer: filling twice is filling with the joined
+/// sheet, it does not matter which two of three sheets are joined first, and the empty sheet changes
+/// nothing. Where the first stage is answered, the refusals must be the same, too.
 fn compare_chains(options: &Options, count: &mut Count) {
     const EMPTY: [u8; 4] = [0; 4];
     let (fill, join) = (shiulbart::fill_to_vec, shiulbart::join_to_vec);
     let all = if options.gate { CHAINS } else { options.cases };
-    let start = Instant::now();
-    let mut looked_at = ["fill twice", "join three", "empty sheet"].map(|what| (what, 0, 0));
-    let mut differs = 0;
+    let mut laws = Laws::new(["fill twice", "join three", "empty sheet"], count);
     for [template, a, b, c] in Chains::new(options.seed).take(all) {
-        let mut law = |which: usize, left: Result<Vec<u8>, _>, right: Result<Vec<u8>, _>| {
-            looked_at[which].1 += 1;
-            looked_at[which].2 += left.is_ok() as usize;
-            count.of(left == right);
-            if left != right && differs < SHOWN {
-                differs += 1;
-                println!("{}: {left:02X?} and {right:02X?}", looked_at[which].0);
-                let on = [&template, &a, &b, &c].map(|bytes| hex(bytes));
-                println!("  on {}", on.join(" | "));
-            }
-        };
+        let on = [&template[..], &a, &b, &c];
         let (ab, bc) = (join(&a, &b), join(&b, &c));
         if let (Ok(ab), Ok(once)) = (&ab, fill(&template, &a)) {
-            law(0, fill(&once, &b), fill(&template, ab));
+            laws.look(0, fill(&once, &b), fill(&template, ab), &on);
         }
         if let (Ok(ab), Ok(bc)) = (&ab, &bc) {
-            law(1, join(ab, &c), join(&a, bc));
+            laws.look(1, join(ab, &c), join(&a, bc), &on);
         }
         if shiulbart::read(&template).is_ok() {
-            law(2, fill(&template, &EMPTY), Ok(template.clone()));
+            laws.look(2, fill(&template, &EMPTY), Ok(template.clone()), &on);
         }
         if shiulbart::sheet(&a).is_ok() {
-            law(2, join(&a, &EMPTY), Ok(a.clone()));
-            law(2, join(&EMPTY, &a), Ok(a.clone()));
+            laws.look(2, join(&a, &EMPTY), Ok(a.clone()), &on);
+            laws.look(2, join(&EMPTY, &a), Ok(a.clone()), &on);
         }
     }
-    let seconds = start.elapsed().as_secs_f64();
-    println!(
-        "laws: {all} templates with three sheets, seed {}, {seconds:.1} s",
-        options.seed
-    );
-    for (what, times, answered) in looked_at {
-        println!("  {what:>12}: looked at {times:>6} times, {answered:>6} of them answered");
-        if all >= CHAINS && answered < all / LEAST_ANSWERED {
-            println!("laws: {what}: under 1 case in {LEAST_ANSWERED} was answered");
-            count.failed += 1;
+    laws.print("templates with three sheets", all, options);
+}
+
+/// What must hold of `write` and `table`, whatever they answer: the table of an encoding is written as
+/// that encoding; what a table is written as has a table that is written as the same; the table of an
+/// encoding, written and made again, is the same bytes; and a table that is taken apart and put together
+/// is what it was.
+fn compare_tables(options: &Options, count: &mut Count) {
+    let (write, table) = (shiulbart::write_to_vec, shiulbart::table_to_vec);
+    let all = if options.gate { CHAINS } else { options.cases };
+    let laws = ["table, write", "write, back", "made again", "taken apart"];
+    let mut laws = Laws::new(laws, count);
+    for encoding in EncodingInputs::new(options.seed.wrapping_add(3)).take(all) {
+        if let Ok(own) = table(&encoding) {
+            let on = [&encoding[..]];
+            laws.look(0, write(&own), Ok(encoding.clone()), &on);
+            laws.look(2, write(&own).and_then(|again| table(&again)), Ok(own), &on);
         }
     }
+    for bytes in WriteInputs::new(options.seed.wrapping_add(3)).take(all) {
+        let (said, on) = (write(&bytes), [&bytes[..]]);
+        if let Ok(encoding) = &said {
+            let again = table(encoding).and_then(|own| write(&own));
+            laws.look(1, again, said.clone(), &on);
+        }
+        let apart = shiulbart::Table::parse(&bytes).map(|table| table.to_bytes());
+        let right = match said {
+            Err(refusal) if (9..=11).contains(&refusal.number()) => Err(refusal),
+            _ => Ok(bytes.clone()),
+        };
+        laws.look(3, apart, right, &on);
+    }
+    laws.print("encodings and as many tables", all, options);
 }
 
 fn main() -> ExitCode {
@@ -578,7 +729,10 @@ fn main() -> ExitCode {
     compare_sheet(&options, &mut count);
     compare_fill(&options, &mut count);
     compare_join(&options, &mut count);
+    compare_write(&options, &mut count);
+    compare_table(&options, &mut count);
     compare_chains(&options, &mut count);
+    compare_tables(&options, &mut count);
     println!("{} passed, {} failed", count.passed, count.failed);
     match count.failed {
         0 => ExitCode::SUCCESS,

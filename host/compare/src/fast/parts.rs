@@ -97,7 +97,7 @@ pub(super) fn past_text(bytes: &[u8], at: usize) -> usize {
 
 /// The place after the shape at a place.
 #[inline(always)]
-fn past_shape(bytes: &[u8], at: usize) -> usize {
+pub(super) fn past_shape(bytes: &[u8], at: usize) -> usize {
     let first = bytes[at];
     if !(ARRAY..=VARIABLE).contains(&first) {
         return at + 1;
