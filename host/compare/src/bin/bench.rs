@@ -2,21 +2,26 @@
 //! of each. See README.md.
 
 use compare::cases::sheets::{equal, symbol_of, Sheet};
+use compare::cases::table::{
+    chain, doubled, kind, largest, letters, m4_table, records, Node, Table,
+};
 use compare::cases::{function, leb128, long, nested, record, symbol, typical};
-use compare::question::{Pair, Question};
+use compare::question::{Pair, Question, Single};
 use compare::random::Random;
 use compare::stack::{
     peak, worst_for_fill, worst_for_join, worst_for_parts, worst_for_read, worst_for_sheet,
-    worst_ks, Worst, SHEET,
+    worst_for_table, worst_for_write, worst_ks, Worst, LONGEST,
 };
-use compare::{child, fast, fill, join, name, read, sheet, Parts};
+use compare::{child, fast, fill, join, name, read, sheet, table, write, Parts};
 use std::fmt::Display;
 use std::hint::black_box;
-use std::time::Instant;
+use std::time::{Duration, Instant};
 
 /// Rounds of a case. The least time of each program counts, so that what else the machine does
-/// drops out.
+/// drops out. A case that takes long has fewer.
 const ROUNDS: usize = 400;
+const LEAST_ROUNDS: usize = 3;
+const LONG: Duration = Duration::from_secs(10);
 /// The bytes that a round reads, about, and the most often that it reads an input.
 const ROUND_BYTES: usize = 100_000;
 const ROUND_TIMES: usize = 2000;
@@ -455,6 +460,139 @@ fn cases_for_join() -> Vec<Case> {
     ]
 }
 
+/// The table of an encoding.
+fn table_of(encoding: &[u8]) -> Vec<u8> {
+    table::whole(encoding).expect("it is accepted")
+}
+
+fn cases_for_write() -> Vec<Case> {
+    let one = |name, table: Vec<u8>| one(name, &table, 0);
+    let all = different().iter().map(|bytes| table_of(bytes)).collect();
+    let changed = |mut table: Table, change: fn(&mut Table)| {
+        change(&mut table);
+        table.counted().bytes()
+    };
+    // nodes that share all but the last of their links
+    let shared = |kind, links: u16| {
+        let mut table = Table::new(
+            &[(kind::BLANK, 0, 0)],
+            &vec![(0, 0); links.into()],
+            &[(0, 0)],
+        );
+        table.push_node(Node::new(kind, 0, links));
+        table.counted().bytes()
+    };
+    let wide_record = record(200, &[5, b'f', b'i', b'e', b'l', b'd', 3].repeat(200));
+    let packed = function(2042, &[0x76; 2042], &[0x76]);
+    vec![
+        one("short: Int", table_of(&[0x20])),
+        one("short: M4's table", m4_table().bytes()),
+        one("short: Array of Bool", table_of(&[0x62])),
+        many("typical: 256 different shapes", all, 0),
+        one("wide: Record of 200 names", table_of(&wide_record)),
+        one(
+            "wide: Record of 1,000 shared fields",
+            shared(kind::RECORD, 1000),
+        ),
+        one(
+            "wide: Function of 2,041 blanks",
+            shared(kind::FUNCTION, 2042),
+        ),
+        one(
+            "wide: Symbol of 2,043 empty texts",
+            shared(kind::SYMBOL, 2043),
+        ),
+        one(
+            "wide: Function of 500 Arrays",
+            table_of(&function(500, &[0x40, 1, 0, 0].repeat(500), &[0x20])),
+        ),
+        one("deep: 15 Arrays", chain(15, Node::new(0, 0, 0)).bytes()),
+        one("deep: 15 Records", table_of(&deep_records())),
+        one("deep: 15 levels of 128 blanks", table_of(&deep_functions())),
+        one("shared: 9 Maps of the same twice", doubled(9).bytes()),
+        one("text: 2,042 letters", letters(2042).bytes()),
+        one(
+            "text: 510 characters of four bytes",
+            table_of(&symbol("\u{1F6A1}".repeat(510).as_bytes())),
+        ),
+        one("packed: 2,043 Maps, 6,130 nodes", table_of(&packed)),
+        one(
+            "largest: 6,144 nodes, the root an Int",
+            largest([0; 4]).bytes(),
+        ),
+        one(
+            "largest: 6,144 nodes, all other sections",
+            changed(largest([0; 4]), |table| {
+                // the names' texts apart from each other, and Records of two fields
+                table.names = (0..2048).map(|start| (start, 1)).collect();
+                table.links = (0..6144).map(|link| (link % 2, link / 3)).collect();
+                for node in 2..3000 {
+                    table.nodes[node] = Node::new(kind::RECORD, 2 * node as u16, 2);
+                }
+            }),
+        ),
+        one(
+            "worst: 6,143 Records of the same 6,144 links",
+            records(6144, 6144).bytes(),
+        ),
+        one("refused early: no nodes", vec![0; 61_448]),
+        one("refused early: 6,145 nodes", largest([1, 0, 0, 0]).bytes()),
+        one(
+            "refused late: the last node",
+            changed(largest([0; 4]), |table| table.nodes[6143].kind = 11),
+        ),
+        one(
+            "refused late: the last name",
+            changed(largest([0; 4]), |table| table.names[2047].1 = 2049),
+        ),
+        one("refused late: 15", chain(6143, Node::new(0, 0, 0)).bytes()),
+        one("refused late: 16", doubled(15).bytes()),
+    ]
+}
+
+fn cases_for_table() -> Vec<Case> {
+    let one = |name, bytes: Vec<u8>| one(name, &bytes, 0);
+    let wide = function(2040, &[0x05; 2040], &[0x20]);
+    vec![
+        one("short: Int", vec![0x20]),
+        one("short: M4", RECORD_A_B.to_vec()),
+        one("short: Array of Bool", vec![0x62]),
+        many("typical: 256 different shapes", different(), 0),
+        one("wide: Record of 200 names", named()),
+        one(
+            "wide: Record of 1,000 empty names",
+            record(1000, &[0x00, 0x01].repeat(1000)),
+        ),
+        one("wide: Function of 2,040 blanks", wide.clone()),
+        one(
+            "wide: Function of 500 Arrays",
+            function(500, &[0x40, 1, 0, 0].repeat(500), &[0x20]),
+        ),
+        one(
+            "wide: Symbol of 2,043 empty texts",
+            long(0x44, &[leb128(2043), vec![0; 2043]].concat()),
+        ),
+        one(
+            "deep: 15 Arrays",
+            nested(15, &[0x03], |inner| long(0x40, inner)),
+        ),
+        one("deep: 15 Records", deep_records()),
+        one("deep: 15 levels of 128 blanks", deep_functions()),
+        one("text: 2,042 letters", symbol(&[b'a'; 2042])),
+        one(
+            "packed: 2,043 Maps, 6,130 nodes",
+            function(2042, &[0x76; 2042], &[0x76]),
+        ),
+        one(
+            "packed: 1,021 Maps in a Record",
+            record(1021, &[0, 0x76].repeat(1021)),
+        ),
+        one("refused early: first byte", vec![0xFF; 2048]),
+        one("refused early: 2,049 bytes", vec![0x20; 2049]),
+        one("refused late: wide, last byte", spoilt(&wide)),
+    ]
+}
+
 /// What is measured: a call on an input, which is lent a buffer. None is inlined into the measurement.
 type Program = fn(&Input, &mut [u8]) -> bool;
 
@@ -519,6 +657,26 @@ fn rust_join(input: &Input, out: &mut [u8]) -> bool {
 }
 
 #[inline(never)]
+fn proved_write(input: &Input, out: &mut [u8]) -> bool {
+    black_box(shiulbart::write(&input.first, out)).is_ok()
+}
+
+#[inline(never)]
+fn rust_write(input: &Input, out: &mut [u8]) -> bool {
+    black_box(fast::write::write(&input.first, out)).is_ok()
+}
+
+#[inline(never)]
+fn proved_table(input: &Input, out: &mut [u8]) -> bool {
+    black_box(shiulbart::table(&input.first, out)).is_ok()
+}
+
+#[inline(never)]
+fn rust_table(input: &Input, out: &mut [u8]) -> bool {
+    black_box(fast::table::table(&input.first, out)).is_ok()
+}
+
+#[inline(never)]
 fn std_utf8(input: &Input, _: &mut [u8]) -> bool {
     black_box(std::str::from_utf8(&input.first)).is_ok()
 }
@@ -527,9 +685,13 @@ fn std_utf8(input: &Input, _: &mut [u8]) -> bool {
 fn least(programs: &[Program], inputs: &[Input]) -> Vec<f64> {
     let bytes: usize = inputs.iter().map(Input::bytes).sum();
     let times = (ROUND_BYTES / bytes).clamp(1, ROUND_TIMES);
-    let mut out = vec![0; SHEET];
+    let mut out = vec![0; LONGEST];
     let mut least = vec![f64::INFINITY; programs.len()];
-    for _ in 0..ROUNDS {
+    let first = Instant::now();
+    for round in 0..ROUNDS {
+        if round >= LEAST_ROUNDS && first.elapsed() > LONG {
+            break;
+        }
         for (program, least) in programs.iter().zip(&mut least) {
             let start = Instant::now();
             for _ in 0..times {
@@ -696,6 +858,24 @@ fn main() {
             pair.ask(join::proved) == pair.ask(join::fast::<0>)
         },
     );
+    times(
+        "write",
+        [proved_write, rust_write],
+        cases_for_write(),
+        |input| {
+            let single = Single::new(input.first.clone(), write::whole);
+            single.ask(write::proved) == single.ask(write::fast)
+        },
+    );
+    times(
+        "table",
+        [proved_table, rust_table],
+        cases_for_table(),
+        |input| {
+            let single = Single::new(input.first.clone(), table::whole);
+            single.ask(table::proved) == single.ask(table::fast)
+        },
+    );
     println!("\n| the text alone, `std::str::from_utf8` | bytes | ns a byte |");
     println!("|---|---:|---:|");
     for (name, text) in [
@@ -714,4 +894,6 @@ fn main() {
     stack("sheet", worst_for_sheet(), [proved_sheet, rust_sheet]);
     stack_of_pairs("fill", worst_for_fill(), [proved_fill, rust_fill]);
     stack_of_pairs("join", worst_for_join(), [proved_join, rust_join]);
+    stack("write", worst_for_write(), [proved_write, rust_write]);
+    stack("table", worst_for_table(), [proved_table, rust_table]);
 }

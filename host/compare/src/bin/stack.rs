@@ -3,15 +3,17 @@
 
 use compare::stack::{
     peak, worst_for_fill, worst_for_join, worst_for_parts, worst_for_read, worst_for_sheet,
-    worst_ks, Worst, BOARD, BUFFERS_OF_A, BUFFERS_OF_B, MOST_FOR_ANOTHER, MOST_FOR_READ, SHEET,
+    worst_for_table, worst_for_write, worst_ks, Worst, BOARD, BUFFERS_OF_A, BUFFERS_OF_B, LONGEST,
+    MOST_FOR_ANOTHER, MOST_FOR_READ, MOST_FOR_TABLES, SHEET,
 };
-use compare::{child, fill, join, name, read, sheet, Lends, Outcome, Parts};
+use compare::{child, fill, join, name, read, sheet, table, write, Lends, Makes, Outcome, Parts};
 use std::hint::black_box;
 use std::process::ExitCode;
 
 /// A call that is measured.
 type Call = fn(&[u8], u64);
 type LentCall = fn(&[u8], &[u8], &mut [u8]);
+type SingleCall = fn(&[u8], &mut [u8]);
 
 /// What passed and failed.
 #[derive(Default)]
@@ -59,6 +61,22 @@ fn lent(name: &str, proved: Lends, call: LentCall, worst: Vec<Worst>, count: &mu
     most
 }
 
+/// `write` or `table`.
+fn single(
+    name: &str,
+    proved: Makes,
+    call: SingleCall,
+    worst: Vec<(String, Vec<u8>)>,
+    count: &mut Count,
+) {
+    let mut out = vec![0; LONGEST];
+    for (input, bytes) in worst {
+        let outcome = proved(&bytes, &mut out);
+        let taken = peak(|out| call(&bytes, out));
+        count.of(name, taken, MOST_FOR_TABLES, &input, outcome);
+    }
+}
+
 fn main() -> ExitCode {
     let mut count = Count::default();
     for (input, bytes) in worst_for_read() {
@@ -102,6 +120,26 @@ fn main() -> ExitCode {
     };
     let of_fill = lent("fill", fill::proved, of_fill, worst_for_fill(), &mut count);
     let of_join = lent("join", join::proved, of_join, worst_for_join(), &mut count);
+    let of_write: SingleCall = |table, out| {
+        let _ = black_box(shiulbart::write(black_box(table), out));
+    };
+    let of_table: SingleCall = |bytes, out| {
+        let _ = black_box(shiulbart::table(black_box(bytes), out));
+    };
+    single(
+        "write",
+        write::proved,
+        of_write,
+        worst_for_write(),
+        &mut count,
+    );
+    single(
+        "table",
+        table::proved,
+        of_table,
+        worst_for_table(),
+        &mut count,
+    );
     count.board("board A, which fills twice", BUFFERS_OF_A, of_fill);
     let most = of_fill.max(of_join);
     count.board("board B, which joins and fills", BUFFERS_OF_B, most);
