@@ -4,6 +4,7 @@
 --     text-length    how long a name's text is
 --     text-wrote     the bytes of a name from its text's start on are its text
 --     item-bare      the item of a kind without names is a bare link
+--     no-entry, no-own     a section that has no entries for the items of a list of a kind gets nothing of them
 --     array-bytes, map-bytes     an Array and a Map of primitives, entry by entry
 --     own-bytes, items-count     a list's node after the entries for its items, of which there are as many as the list has
 --     short-blank, short-prim, short-array, short-map     a shape of one byte, by its byte
@@ -11,11 +12,11 @@
 use mathlib.Core.Path.{_≡_, refl, _∙_}
 use mathlib.Core.Bool.{true, false}
 use mathlib.Core.List.{List, [], _∷_, _++_, append-assoc}
-use Prim.Native.Nat.{ℕ, _+_, _-_, _/_, _%_, _≤_, _<_}
+use Prim.Native.Nat.{ℕ, zero, suc, _+_, _-_, _/_, _%_, _≤_, _<_}
 use native.Mathlib.Nat.{add-zero, zero-add}
 use native.Mathlib.Omega.{arith}
 use lib.ListN.{length, length-drop}
-use lib.Seq.{slice, take-length, drop-nil}
+use lib.Seq.{slice, slice-empty, take-length}
 use borrow.Author.Tests.{lt-ltb, le-ltb}
 use Rattle.meaning.specs.Numbers.{twoBytes}
 use Rattle.meaning.specs.FirstByte.{shortBlanks, primByte, arrayByte, mapByte}
@@ -24,13 +25,16 @@ use Rattle.leaves.specs.Written.{written}
 use Rattle.reader.specs.Walk.{named, shaped}
 use Rattle.reader.specs.declared.first.Kind.{Kind}
 use Rattle.reader.specs.declared.first.Kind.the-variants.{Array, Map}
+use Rattle.parts.specs.Steps.{pastName}
+use Rattle.parts.specs.Pass.{Passer, passItems}
 use Rattle.way_back.specs.declared.counts.Counts.{Counts}
 use Rattle.way_back.specs.declared.counts.Section.{Section}
 use Rattle.way_back.specs.declared.counts.Section.the-variants.{Nodes, Links, Names, Text}
-use Rattle.way_back.specs.Pieces.{plus, textFrom, textIn, kindNumber, nodeEntry, itemEntry, bareEntry, single, Gathered, noItems, ownBytes, listPiece, packedArray, packedMap, shortPiece, inner}
+use Rattle.way_back.specs.Pieces.{plus, textFrom, textIn, kindNumber, nodeEntry, itemEntry, hasEntries, bareEntry, Piece, single, Gathered, noItems, ownBytes, listPiece, packedArray, packedMap, shortPiece, pieces, inner}
 use Rattle.way_back.specs.Puts.{Wrote, itemsAt}
 use Rattle.way_back.proofs.Wrote.{wrote-after}
 use Rattle.way_back.proofs.Grows.{counted}
+use Rattle.way_back.proofs.Texted.{text-none}
 
 -- A node's kind, zero and two numbers, written one after the other, are its entry.
 pub node-wrote : (d e f g o : List ℕ) (to kind a b : ℕ) → to + 6 ≤ length d
@@ -65,7 +69,29 @@ item-bare : (section : Section) (kind : Kind) (m n k start : ℕ) → shaped kin
 item-bare Nodes kind m n k start p q e = refl
 item-bare Links kind m n k start p q e = rw (p, q, e)
 item-bare Names kind m n k start p q e = rw q
-item-bare Text kind m n k start p q e = drop-nil (textFrom [])
+item-bare Text kind m n k start p q e = text-none
+
+-- Where a section has no entries for the items of a list of a kind, it gets nothing of an item,
+no-entry : (section : Section) (kind : Kind) (m k start : ℕ) (s : List ℕ) (at : ℕ) → hasEntries section kind ≡ false
+    → itemEntry section kind m k start (textIn (slice at (pastName s at kind) s)) ≡ []
+unfolding pastName
+no-entry Nodes kind m k start s at h = refl
+no-entry Links kind m k start s at h = cc
+no-entry Names kind m k start s at h = rw h
+no-entry Text kind m k start s at h = rw (h, slice-empty at s) text-none
+
+-- nor of several,
+no-more : (section : Section) (kind : Kind) (base after : Counts) (inner : Passer Piece) (s : List ℕ) → hasEntries section kind ≡ false
+    → (due at : ℕ) (a : Gathered) → a .own section kind base after ≡ [] → passItems pieces inner kind due s at a .made .own section kind base after ≡ []
+unfolding passItems
+no-more section kind base after inner s h zero at a e = e
+no-more section kind base after inner s h (suc due) at a e =
+    no-more section kind base after inner s h due _ _ (rw (e, no-entry section kind _ _ _ s at h))
+
+-- and so the list's node has nothing there.
+pub no-own : (section : Section) (kind : Kind) (base after : Counts) (left count : ℕ) (s : List ℕ) (from : ℕ) → hasEntries section kind ≡ false
+    → itemsAt left kind count s from .made .own section kind base after ≡ []
+no-own section kind base after left count s from h = no-more section kind base after (inner left kind) s h count from noItems refl
 
 module _ (section : Section) (base : Counts) where
   -- An Array of a primitive is the primitive's node, a link to it, and the Array's node.

@@ -1,6 +1,7 @@
 -- What a shape adds to a table, section by section, and the pass over an encoding that finds it (parts/specs/Pass.antt). Proved to be what the table
 -- of the shape has (proofs/Grown.antt, proofs/Making.antt). No public contract cites it.
 use Prim.Native.Nat.{ℕ, zero, suc, _+_, _-_, _/_, _%_, _<_}
+use mathlib.Core.Bool.{Bool, true, false}
 use mathlib.Core.List.{List, [], _∷_, _++_}
 use lib.Dec.{ltb}
 use lib.ListN.{length, drop}
@@ -73,6 +74,13 @@ itemEntry Nodes kind target k start w = []
 itemEntry Links kind target k start w = linkEntry kind target k
 itemEntry Names kind target k start w = nameEntry kind start (length w)
 itemEntry Text kind target k start w = w
+
+-- whether a section gets anything of the items of a list of a kind
+abbrev pub hasEntries : Section → Kind → Bool
+hasEntries Nodes kind = false
+hasEntries Links kind = true
+hasEntries Names kind = named kind
+hasEntries Text kind = named kind
 
 -- a link without a name
 abbrev pub bareEntry : Section → ℕ → List ℕ

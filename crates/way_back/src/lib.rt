@@ -49,7 +49,7 @@ ghost use Rattle.reader.specs.declared.first.Kind.the-variants.{Array, Map};
 ghost use Rattle.reader.specs.Walk.{shaped};
 ghost use Rattle.parts.specs.Steps.{firstAt};
 ghost use Rattle.parts.specs.Pass.{passItems, passShape};
-ghost use Rattle.way_back.specs.Pieces.{none, plus, Few, textIn, kindNumber, nodeEntry, linkEntry, nameEntry, itemEntry, bareEntry, noItems, packedArray, packedMap, ownBytes, listPiece, shortPiece, symbolPiece, pieces};
+ghost use Rattle.way_back.specs.Pieces.{none, plus, Few, textIn, kindNumber, nodeEntry, linkEntry, nameEntry, itemEntry, hasEntries, bareEntry, noItems, packedArray, packedMap, ownBytes, listPiece, shortPiece, symbolPiece, pieces};
 ghost use Rattle.way_back.specs.Puts.{FewOwn, itemsAt, Wrote, Room, Linked, tableSize, sections};
 
 // The number of a kind in a table.
@@ -158,6 +158,18 @@ fn before(n: usize) -> usize
     n - 1
 }
 
+// Whether a section has entries for the items of a list of a kind.
+fn has_entries(section: Section, kind: Kind) -> bool
+    ensures { λ r. ⌜ r ≡ hasEntries section kind ⌝ }
+{
+    match section {
+        Section::Nodes => false,
+        Section::Links => true,
+        Section::Names => reader::payload::named_kind(kind),
+        Section::Text => reader::payload::named_kind(kind),
+    }
+}
+
 // The entries that a list's node has for its items. So many entries are there before the list, and so many after its shapes. The place after them.
 fn put_own(
     section: Section,
@@ -174,6 +186,9 @@ fn put_own(
     requires { ⌜ (from ≤ length (now s)) × (length (now s) < 65536) × (left ≤ maxLevels) × (count ≤ 16384) × FewOwn base after (itemsAt left kind count (now s) from .made) × Room (length (now out)) first (itemsAt left kind count (now s) from .made .own section kind base after) ⌝ }
     ensures { λ r. ⌜ Wrote (now (out .entry)) (now (out .exit)) first (itemsAt left kind count (now (s .entry)) from .made .own section kind base after) r ⌝ }
 {
+    if !has_entries(section, kind) {
+        return first;
+    }
     let mut at = from;
     let mut to = first;
     let mut nodes = 0;
