@@ -1,18 +1,20 @@
--- What a section gets of a list: of the shapes of its items, in the turns of a loop, and then of its node.
+-- What a section gets of a shape: of nothing; and of a list, of the shapes of its items, in the turns of a loop, and then of its node.
+--     put-none               where no shape stands, nothing is written
 --     Turn, turn-first       what the loop keeps: the shapes so far stand in the buffer, and the others end as the whole list does; so it starts
---     turn-few, shape-few    where what the whole list adds is few, what an item's shape adds is, after those before it and by itself
+--     turn-few, turn-text    where what the whole list adds is few, what an item's shape adds is after those before it, and so are the texts
 --     turn-room, turn-on     the shape has room, and with it written the loop goes on
+--     turn-end               at the end the shapes of all items are written
 --     IsList, is-list        at a place stands a list of these items
---     list-few, items-few    where what a list adds is few, what its items add is, after those before it and by itself
---     own-few                so is what its node's entries say
+--     list-few               where what a list adds is few, what its items add is after those before it
+--     own-few, sum-few       so is what its node's entries say, and what is there after them
 --     items-room, own-room   the items' shapes have room, and the node's entries after them
---     list-wrote             written one after the other they are the list
+--     list-put               written one after the other they are the list
 -- Assumes nothing.
-use mathlib.Core.Path.{_≡_, refl, sym, _∙_}
+use mathlib.Core.Path.{_≡_, refl, sym, subst, _∙_}
 use mathlib.Core.List.{List}
 use mathlib.Core.Bool.{true}
 use Prim.Native.Nat.{ℕ, _+_, _-_, _≤_, _<_}
-use native.Mathlib.Nat.{add-zero, add-assoc}
+use native.Mathlib.Nat.{add-assoc, zero-add}
 use native.Mathlib.Omega.{arith}
 use lib.ListN.{length, length-append}
 use lib.Seq.{slice}
@@ -21,30 +23,36 @@ use Rattle.reader.specs.declared.first.Kind.{Kind}
 use Rattle.reader.specs.declared.first.First.the-variants.{Long}
 use Rattle.parts.specs.Steps.{headSize, firstAt, listAt, pastName}
 use Rattle.parts.specs.declared.Listing.{Listing}
-use Rattle.parts.specs.Pass.{Passer, passItems, passShape}
-use Rattle.parts.proofs.Passing.{list-items, items-one}
+use Rattle.parts.specs.Pass.{Came, came, Passer, passItems, passShape}
+use Rattle.parts.proofs.Passing.{list-items, items-one, items-none}
 use Rattle.way_back.specs.declared.counts.Counts.{Counts}
 use Rattle.way_back.specs.declared.counts.Section.{Section}
-use Rattle.way_back.specs.Pieces.{none, plus, Few, Piece, Gathered, noItems, withItem, ownBytes, listPiece, pieces}
-use Rattle.way_back.specs.Puts.{FewItems, FewOwn, Linked, Wrote, Room}
-use Rattle.way_back.proofs.Grows.{grows, shapes-grow}
+use Rattle.way_back.specs.declared.Put.{Put}
+use Rattle.way_back.specs.declared.PutItems.{PutItems}
+use Rattle.way_back.specs.Pieces.{plus, Few, textIn, Piece, Gathered, nothing, noItems, withItem, ownCounts, ownBytes, listPiece, pieces}
+use Rattle.way_back.specs.Puts.{FewAfter, FewOwn, Linked, Wrote, PutIs, PutItemsIs, Room}
+use Rattle.way_back.proofs.Grows.{grows, counted, shapes-grow}
+use Rattle.way_back.proofs.Counting.{part, part-is}
+use Rattle.way_back.proofs.Texts.{plus-none}
 use Rattle.way_back.proofs.Wrote.{wrote-none, wrote-after}
 use Rattle.way_back.proofs.Linked.{items-linked, shape-linked}
 
--- Counts may be added in any grouping,
+-- Counts may be added in any grouping.
 plus-assoc : (a b c : Counts) → plus (plus a b) c ≡ plus a (plus b c)
 plus-assoc a b c = simp add-assoc
 
--- and with none added they stay.
-plus-none : (a : Counts) → plus a none ≡ a
-plus-none a = simp add-zero
+-- Where no shape stands, nothing is written.
+pub put-none : {section : Section} {s : List ℕ} {base : Counts} {d : List ℕ} {at to : ℕ} {v : Came Piece} → v ≡ came at nothing → at ≤ length s
+    → PutIs section s base d d to (record { next = at; to = to; there = base }) v
+put-none {base = base} {d = d} {to = to} e i = rw e (record { wrote = wrote-none d to; next-is = refl; there-is = sym (plus-none base); inside = i })
 
 -- what the loop keeps, of the buffer d that is now e: the items so far are a
-pub record Turn (section : Section) (inner : Passer Piece) (kind : Kind) (s : List ℕ) (from first count : ℕ) (base : Counts) (d e : List ℕ) (at to : ℕ) (there : Counts) (due : ℕ) : Type 0 where
+pub record Turn (section : Section) (inner : Passer Piece) (kind : Kind) (s : List ℕ) (from first count : ℕ) (base : Counts) (d e : List ℕ) (at to : ℕ) (there : Counts) (text due : ℕ) : Type 0 where
   pub a : Gathered
   pub goes : passItems pieces inner kind count s from noItems ≡ passItems pieces inner kind due s at a
   pub wrote : Wrote d e first (a .shapes section base) to
   pub there-is : there ≡ plus base (a .counts)
+  pub text-is : text ≡ a .text
   pub linked : Linked there
   pub long : length e ≡ length d
   pub inside : at ≤ length s
@@ -52,30 +60,26 @@ pub record Turn (section : Section) (inner : Passer Piece) (kind : Kind) (s : Li
 
 -- So the loop starts, with nothing written.
 pub turn-first : (section : Section) (inner : Passer Piece) (kind : Kind) (s : List ℕ) (from first count : ℕ) (base : Counts) (d : List ℕ) → from ≤ length s → Linked base
-    → Turn section inner kind s from first count base d d from first base count
+    → Turn section inner kind s from first count base d d from first base 0 count
 turn-first section inner kind s from first count base d i l =
-    record { a = noItems; goes = refl; wrote = wrote-none d first; there-is = sym (plus-none base); linked = l; long = refl; inside = i; fewer = omega arith }
+    record { a = noItems; goes = refl; wrote = wrote-none d first; there-is = sym (plus-none base); text-is = refl; linked = l; long = refl; inside = i; fewer = omega arith }
 
-module _ {section : Section} {inner : Passer Piece} {kind : Kind} {s : List ℕ} {from first count : ℕ} {base : Counts} {d e : List ℕ} {at to : ℕ} {there : Counts} {due : ℕ}
-    (t : Turn section inner kind s from first count base d e at to there due)
-    (few : Few (plus base (passItems pieces inner kind count s from noItems .made .counts)))
+module _ {section : Section} {inner : Passer Piece} {kind : Kind} {s : List ℕ} {from first count : ℕ} {base : Counts} {d e : List ℕ} {at to : ℕ} {there : Counts} {text due : ℕ}
+    (t : Turn section inner kind s from first count base d e at to there text due)
+    (few : FewAfter base (passItems pieces inner kind count s from noItems .made))
     (room : Room (length d) first (passItems pieces inner kind count s from noItems .made .shapes section base))
     (pos : 0 < due) {start : ℕ} (is : start ≡ pastName s at kind) where
   -- The item is passed over, and the others follow it.
   goes-on : passItems pieces inner kind count s from noItems ≡ passItems pieces inner kind (due - 1) s (inner s start .next) (withItem (t .a) (slice at start s) (inner s start .made))
   goes-on = t .goes ∙ items-one pieces inner kind s at (t .a) due pos ∙ rw is
 
-  -- What its shape adds is few after those before it,
+  -- What its shape adds is few after those before it.
   pub turn-few : Few (plus there (inner s start .made .counts))
   turn-few =
       let v : Piece = inner s start .made in
       let g = grows inner kind s (due - 1) (inner s start .next) (withItem (t .a) (slice at start s) v) .counts in
-      let f = rw goes-on at few in
+      let f = rw goes-on at (few .0) in
       rw (t .there-is) (omega (arith, f .0, g .nodes), omega (arith, f .1, g .links), omega (arith, f .2, g .names), omega (arith, f .3, g .text))
-
-  -- and by itself.
-  pub shape-few : Few (inner s start .made .counts)
-  shape-few = let f = turn-few in (omega (arith, f .0), omega (arith, f .1), omega (arith, f .2), omega (arith, f .3))
 
   -- The shapes so far and this one have room together,
   both-room : first + (length (t .a .shapes section base) + length (inner s start .made .bytes section there)) ≤ length d
@@ -89,69 +93,103 @@ module _ {section : Section} {inner : Passer Piece} {kind : Kind} {s : List ℕ}
   pub turn-room : Room (length e) to (inner s start .made .bytes section there)
   turn-room = omega (arith, both-room, t .wrote .after, t .long)
 
-  -- With it written the loop goes on.
-  pub turn-on : {f : List ℕ} {next after : ℕ} {more : Counts} → next ≡ inner s start .next → more ≡ plus there (inner s start .made .counts)
-      → Wrote e f to (inner s start .made .bytes section there) after → length f ≡ length e → next ≤ length s → Linked (inner s start .made .counts)
-      → Turn section inner kind s from first count base d f next after more (due - 1)
-  turn-on n m w k i l =
-      record {
-        a = withItem (t .a) (slice at start s) (inner s start .made);
-        goes = goes-on ∙ rw n;
-        wrote = wrote-after (omega (arith, both-room)) (t .wrote) (rw (t .there-is) at w);
-        there-is = m ∙ rw (t .there-is) (plus-assoc base (t .a .counts) (inner s start .made .counts));
-        linked = rw m (omega (arith, t .linked));
-        long = k ∙ t .long;
-        inside = i;
-        fewer = omega (arith, t .fewer);
-      }
+  module _ (onward : at ≤ start) (within : start ≤ length s) {size : ℕ} (is-size : size ≡ length (textIn (part at start s))) where
+    -- The texts are few with the item's text.
+    pub turn-text : text + size < 65536
+    turn-text =
+        let g = grows inner kind s (due - 1) (inner s start .next) (withItem (t .a) (slice at start s) (inner s start .made)) .text in
+        let f = rw goes-on at (few .1) in
+        rw (is-size, t .text-is, part-is at start s onward within) (omega (arith, f, g))
+
+    -- With the shape written the loop goes on.
+    pub turn-on : {f : List ℕ} {r : Put} → PutIs section s there e f to r (inner s start) → length f ≡ length e → Linked (inner s start .made .counts)
+        → Turn section inner kind s from first count base d f (r .next) (r .to) (r .there) (text + size) (due - 1)
+    turn-on v k l =
+        record {
+          a = withItem (t .a) (slice at start s) (inner s start .made);
+          goes = goes-on ∙ rw (v .next-is);
+          wrote = wrote-after (omega (arith, both-room)) (t .wrote) (rw (t .there-is) at (v .wrote));
+          there-is = v .there-is ∙ rw (t .there-is) (plus-assoc base (t .a .counts) (inner s start .made .counts));
+          text-is = rw (is-size, t .text-is, part-is at start s onward within);
+          linked = rw (v .there-is) (omega (arith, t .linked));
+          long = k ∙ t .long;
+          inside = v .inside;
+          fewer = omega (arith, t .fewer);
+        }
+
+-- At the end the shapes of all items are written.
+pub turn-end : {section : Section} {inner : Passer Piece} {kind : Kind} {s : List ℕ} {from first count : ℕ} {base : Counts} {d e : List ℕ} {at to : ℕ} {there : Counts} {text due : ℕ}
+    → Turn section inner kind s from first count base d e at to there text due → due ≤ 0
+    → PutItemsIs section s base d e first (record { next = at; to = to; there = there; text = text }) (passItems pieces inner kind count s from noItems)
+turn-end {inner = inner} {kind = kind} {s = s} {at = at} {due = due} t z =
+    rw (t .goes ∙ items-none pieces inner kind s at (t .a) due z)
+    (record { wrote = t .wrote; next-is = refl; there-is = t .there-is; text-is = t .text-is; inside = t .inside })
 
 -- the items of a list, of which each has one level less
-abbrev pub allOf : ℕ → List ℕ → Kind → Listing → Gathered
-allOf left s kind l = passItems pieces (passShape pieces (left - 1)) kind (l .count) s (l .from) noItems .made
+abbrev pub allOf : ℕ → List ℕ → Kind → Listing → Came Gathered
+allOf left s kind l = passItems pieces (passShape pieces (left - 1)) kind (l .count) s (l .from) noItems
 
 -- at a place stands a list of the items that l tells of
 pub record IsList (left : ℕ) (s : List ℕ) (at : ℕ) (kind : Kind) (l : Listing) : Type 0 where
   pub has-shapes : shaped kind ≡ true
-  pub made : passShape pieces left s at .made ≡ listPiece kind (allOf left s kind l)
+  pub passed : passShape pieces left s at ≡ came (allOf left s kind l .next) (listPiece kind (allOf left s kind l .made))
 
 -- So it is where the first byte is a list's, a level is left for it, and its head is there.
 pub is-list : (left : ℕ) (s : List ℕ) (at : ℕ) (kind : Kind) (l : Listing) → firstAt s at ≡ Long kind → shaped kind ≡ true → 0 < left → headSize ≤ length s - at
     → l ≡ listAt s (at + headSize) kind → IsList left s at kind l
-is-list left s at kind l h p z k e = record { has-shapes = p; made = rw (e, list-items pieces left s at h p z k) }
+is-list left s at kind l h p z k e = record { has-shapes = p; passed = rw (e, list-items pieces left s at h p z k) }
 
 module _ {left : ℕ} {s : List ℕ} {at : ℕ} {kind : Kind} {l : Listing} (m : IsList left s at kind l) (base : Counts) where
-  module _ (few : Few (plus base (passShape pieces left s at .made .counts))) where
-    -- What its items add is few after those before it,
-    pub list-few : Few (plus base (allOf left s kind l .counts))
-    list-few = let f = rw (m .made) at few in (omega (arith, f .0), omega (arith, f .1), omega (arith, f .2), omega (arith, f .3))
+  -- the items
+  abbrev all : Gathered
+  all = allOf left s kind l .made
 
-    -- and by itself.
-    pub items-few : FewItems (allOf left s kind l)
-    items-few =
-        let f = rw (m .made) at few in
+  module _ (few : Few (plus base (passShape pieces left s at .made .counts))) where
+    -- What its items add is few after those before it.
+    pub list-few : FewAfter base all
+    list-few =
+        let f = rw (m .passed) at few in
         ((omega (arith, f .0), omega (arith, f .1), omega (arith, f .2), omega (arith, f .3)), omega (arith, f .3))
 
     -- So is what its node's entries say: the names are no more than the links.
-    pub own-few : Linked base → FewOwn base (plus base (allOf left s kind l .counts)) (allOf left s kind l)
+    pub own-few : Linked base → FewOwn base (plus base (all .counts)) all
     own-few h =
-        let f = rw (m .made) at few in
+        let f = rw (m .passed) at few in
         let k = items-linked s (passShape pieces (left - 1)) (shape-linked s (left - 1)) kind (l .count) (l .from) noItems (omega arith) in
-        (items-few .0, omega (arith, f .0), omega (arith, f .1, h, k), omega (arith, f .3))
+        ((omega (arith, f .0), omega (arith, f .1), omega (arith, f .2), omega (arith, f .3)), omega (arith, f .0), omega (arith, f .1, h, k), omega (arith, f .3))
 
   module _ (section : Section) (room to : ℕ) (fits : Room room to (passShape pieces left s at .made .bytes section base)) where
     -- The shapes of its items and its node's entries have room together,
-    all-room : to + (length (allOf left s kind l .shapes section base) + length (ownBytes section kind (allOf left s kind l) base)) ≤ room
-    all-room = rw length-append at (rw (m .made) at fits)
+    all-room : to + (length (all .shapes section base) + length (ownBytes section kind all base)) ≤ room
+    all-room = rw length-append at (rw (m .passed) at fits)
 
     -- so the shapes have,
-    pub items-room : Room room to (allOf left s kind l .shapes section base)
+    pub items-room : Room room to (all .shapes section base)
     items-room = omega (arith, all-room)
 
     -- and the entries after them.
-    pub own-room : {next : ℕ} → next ≡ to + length (allOf left s kind l .shapes section base) → Room room next (ownBytes section kind (allOf left s kind l) base)
+    pub own-room : {next : ℕ} → next ≡ to + length (all .shapes section base) → Room room next (ownBytes section kind all base)
     own-room n = omega (arith, all-room)
 
-    -- Written one after the other they are the list.
-    pub list-wrote : {d e f : List ℕ} {next r : ℕ} → length d ≡ room → Wrote d e to (allOf left s kind l .shapes section base) next
-        → Wrote e f next (ownBytes section kind (allOf left s kind l) base) r → Wrote d f to (passShape pieces left s at .made .bytes section base) r
-    list-wrote k p q = rw (m .made) (wrote-after (omega (arith, items-room)) p q)
+  module _ {section : Section} {d e : List ℕ} {to : ℕ} {r : PutItems} {own : Counts} (v : PutItemsIs section s base d e to r (allOf left s kind l)) (is-own : own ≡ ownCounts kind (l .count) (r .text)) where
+    -- What is there after them is what the list adds to what was there before.
+    sum-is : plus (r .there) own ≡ plus base (passShape pieces left s at .made .counts)
+    sum-is =
+        let n : all .items ≡ l .count = counted (passShape pieces (left - 1)) kind s (l .count) (l .from) noItems ∙ zero-add _ in
+        rw (is-own, v .there-is, v .text-is, m .passed, n) (plus-assoc base (all .counts) (ownCounts kind (l .count) (all .text)))
+
+    -- So it is few,
+    pub sum-few : Few (plus base (passShape pieces left s at .made .counts)) → Few (plus (r .there) own)
+    sum-few few = subst (λ (c : Counts). Few c) (sym sum-is) few
+
+    -- and with the entries written the list is.
+    pub list-put : {f : List ℕ} {end : ℕ} {there : Counts} → Room (length d) to (passShape pieces left s at .made .bytes section base)
+        → Wrote e f (r .to) (ownBytes section kind all base) end → there ≡ plus (r .there) own
+        → PutIs section s base d f to (record { next = r .next; to = end; there = there }) (passShape pieces left s at)
+    list-put fits w h =
+        record {
+          wrote = rw (m .passed) (wrote-after (omega (arith, items-room section (length d) to fits)) (v .wrote) w);
+          next-is = v .next-is ∙ rw (m .passed);
+          there-is = h ∙ sum-is;
+          inside = v .inside;
+        }

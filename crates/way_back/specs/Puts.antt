@@ -8,10 +8,13 @@ use Rattle.leaves.specs.Written.{written}
 use Rattle.reader.specs.declared.first.Kind.{Kind}
 use Rattle.parts.specs.Pass.{Came, passItems}
 use Rattle.way_back.specs.declared.counts.Counts.{Counts}
+use Rattle.way_back.specs.declared.counts.Section.{Section}
 use Rattle.way_back.specs.declared.counts.Section.the-variants.{Nodes, Links, Names, Text}
 use Rattle.way_back.specs.declared.counts.Counted.{Counted}
 use Rattle.way_back.specs.declared.counts.Tally.{Tally}
-use Rattle.way_back.specs.Pieces.{none, Few, Piece, Gathered, noItems, pieces, inner}
+use Rattle.way_back.specs.declared.Put.{Put}
+use Rattle.way_back.specs.declared.PutItems.{PutItems}
+use Rattle.way_back.specs.Pieces.{none, plus, Few, Piece, Gathered, noItems, pieces, inner}
 
 -- what was counted of a shape is what the pass makes of it, and the place after it is inside
 pub record CountedIs (s : List ℕ) (r : Counted) (v : Came Piece) : Type 0 where
@@ -30,6 +33,10 @@ pub record TallyIs (s : List ℕ) (r : Tally) (v : Came Gathered) : Type 0 where
 abbrev pub FewItems : Gathered → Type 0
 FewItems a = Few (a .counts) × (a .text < 65536)
 
+-- so where so many are there before the list
+abbrev pub FewAfter : Counts → Gathered → Type 0
+FewAfter base a = Few (plus base (a .counts)) × (a .text < 65536)
+
 -- what the entries of a list's node say is few, where so many are there before the list and so many after its shapes
 abbrev pub FewOwn : Counts → Counts → Gathered → Type 0
 FewOwn base after a =
@@ -47,6 +54,22 @@ itemsAt left kind count s from = passItems pieces (inner left kind) kind count s
 pub record Wrote (d e : List ℕ) (to : ℕ) (w : List ℕ) (r : ℕ) : Type 0 where
   pub after : r ≡ to + length w
   pub wrote : e ≡ written d to w
+
+-- so was what a section gets of a shape, which is what the pass makes of it, where so many entries are there before it; r says the places after it and
+-- how many entries are there then
+pub record PutIs (section : Section) (s : List ℕ) (base : Counts) (d e : List ℕ) (to : ℕ) (r : Put) (v : Came Piece) : Type 0 where
+  pub wrote : Wrote d e to (v .made .bytes section base) (r .to)
+  pub next-is : r .next ≡ v .next
+  pub there-is : r .there ≡ plus base (v .made .counts)
+  pub inside : r .next ≤ length s
+
+-- so of the shapes of a list's items, with the length of the items' texts
+pub record PutItemsIs (section : Section) (s : List ℕ) (base : Counts) (d e : List ℕ) (to : ℕ) (r : PutItems) (v : Came Gathered) : Type 0 where
+  pub wrote : Wrote d e to (v .made .shapes section base) (r .to)
+  pub next-is : r .next ≡ v .next
+  pub there-is : r .there ≡ plus base (v .made .counts)
+  pub text-is : r .text ≡ v .made .text
+  pub inside : r .next ≤ length s
 
 abbrev pub Room : ℕ → ℕ → List ℕ → Type 0
 Room room to w = to + length w ≤ room

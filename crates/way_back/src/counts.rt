@@ -156,7 +156,7 @@ fn count_symbol(w: &[u8]) -> Counts
 }
 
 // A shape with a payload that is no list of shapes.
-fn count_plain(s: &[u8], at: usize, left: usize, kind: Kind) -> Counted
+pub fn count_plain(s: &[u8], at: usize, left: usize, kind: Kind) -> Counted
     requires { ⌜ (at < length (now s)) × (length (now s) < 65536) × (firstAt (now s) at ≡ Long kind) × (shaped kind ≡ false) ⌝ }
     ensures { λ r. ⌜ CountedIs (now (s .entry)) r (passShape pieces left (now (s .entry)) at) ⌝ }
 {
@@ -220,7 +220,7 @@ pub fn count_at(s: &[u8], at: usize, left: usize) -> Counted
 }
 
 // What the items of a list add. The pair of levels left and items left falls, as the reader's does.
-pub fn count_items(s: &[u8], from: usize, left: usize, kind: Kind, count: usize) -> Tally
+fn count_items(s: &[u8], from: usize, left: usize, kind: Kind, count: usize) -> Tally
     requires { ⌜ (from ≤ length (now s)) × (length (now s) < 65536) × (left ≤ maxLevels) × (count ≤ 16384) × FewItems (passItems pieces (passShape pieces left) kind count (now s) from noItems .made) ⌝ }
     ensures { λ r. ⌜ TallyIs (now (s .entry)) r (passItems pieces (passShape pieces left) kind count (now (s .entry)) from noItems) ⌝ }
 {

@@ -6,9 +6,11 @@ use counts::Counts;
 use counts::Section;
 use counts::count_at;
 use counts::count_inner;
-use counts::count_items;
+use counts::count_plain;
 use counts::no_counts;
+use counts::own_counts;
 use counts::plus;
+use counts::short_counts;
 use leaves::buffer::Made;
 use leaves::buffer::put_byte;
 use leaves::buffer::put_part;
@@ -50,7 +52,7 @@ ghost use Rattle.reader.specs.Walk.{shaped};
 ghost use Rattle.parts.specs.Steps.{firstAt};
 ghost use Rattle.parts.specs.Pass.{passItems, passShape};
 ghost use Rattle.way_back.specs.Pieces.{none, plus, Few, textIn, kindNumber, nodeEntry, linkEntry, nameEntry, itemEntry, hasEntries, bareEntry, noItems, packedArray, packedMap, ownBytes, listPiece, shortPiece, symbolPiece, pieces};
-ghost use Rattle.way_back.specs.Puts.{FewOwn, itemsAt, Wrote, Room, Linked, tableSize, sections};
+ghost use Rattle.way_back.specs.Puts.{FewAfter, FewOwn, itemsAt, Wrote, PutIs, PutItemsIs, Room, Linked, tableSize, sections};
 
 // The number of a kind in a table.
 fn kind_number(kind: Kind) -> u8
@@ -345,7 +347,22 @@ fn put_plain(
     )
 }
 
-// What a section gets of the shape at a place, where so many entries are there before it. The place after it.
+// Where a shape was written: the place after it in the encoding, the place after its entries in the table, and how many of each are there then.
+pub struct Put {
+    pub next: usize,
+    pub to: usize,
+    pub there: Counts,
+}
+
+// So of the shapes of a list's items, and how long the items' texts are.
+pub struct PutItems {
+    pub next: usize,
+    pub to: usize,
+    pub there: Counts,
+    pub text: usize,
+}
+
+// What a section gets of the shape at a place, where so many entries are there before it.
 fn put_at(
     section: Section,
     s: &[u8],
@@ -354,24 +371,43 @@ fn put_at(
     base: Counts,
     out: &mut [u8],
     to: usize,
-) -> usize
+) -> Put
     requires { ⌜ (at ≤ length (now s)) × (length (now s) < 65536) × (left ≤ maxLevels) × Few (plus base (passShape pieces left (now s) at .made .counts)) × Room (length (now out)) to (passShape pieces left (now s) at .made .bytes section base) × Linked base ⌝ }
-    ensures { λ r. ⌜ Wrote (now (out .entry)) (now (out .exit)) to (passShape pieces left (now (s .entry)) at .made .bytes section base) r ⌝ }
+    ensures { λ r. ⌜ PutIs section (now (s .entry)) base (now (out .entry)) (now (out .exit)) to r (passShape pieces left (now (s .entry)) at) ⌝ }
 {
     match parts::first_at(s, at) {
-        First::Unassigned => to,
-        First::Short { levels: _ } => put_short(section, s[at], base, out, to),
+        First::Unassigned => Put {
+            next: at,
+            to,
+            there: base,
+        },
+        First::Short { levels: _ } => {
+            let b = s[at];
+            let end = put_short(section, b, base, out, to);
+            Put {
+                next: at + 1,
+                to: end,
+                there: plus(base, short_counts(b)),
+            }
+        }
         First::Long { kind } => {
             if reader::payload::shaped_kind(kind) {
                 if left == 0 {
-                    return to;
+                    return Put {
+                        next: at,
+                        to,
+                        there: base,
+                    };
                 }
                 if s.len() - at < HEAD_SIZE {
-                    return to;
+                    return Put {
+                        next: at,
+                        to,
+                        there: base,
+                    };
                 }
                 let list = parts::list_at(s, at + HEAD_SIZE, kind);
-                let all = count_items(s, list.from, left - 1, kind, list.count);
-                let end = put_items(
+                let all = put_items(
                     section,
                     s,
                     list.from,
@@ -382,7 +418,7 @@ fn put_at(
                     out,
                     to,
                 );
-                return put_list(
+                let end = put_list(
                     section,
                     s,
                     list.from,
@@ -390,17 +426,28 @@ fn put_at(
                     kind,
                     list.count,
                     base,
-                    plus(base, all.counts),
+                    all.there,
                     out,
-                    end,
+                    all.to,
                 );
+                return Put {
+                    next: all.next,
+                    to: end,
+                    there: plus(all.there, own_counts(kind, list.count, all.text)),
+                };
             }
-            put_plain(section, s, at, left, kind, base, out, to)
+            let end = put_plain(section, s, at, left, kind, base, out, to);
+            let part = count_plain(s, at, left, kind);
+            Put {
+                next: part.next,
+                to: end,
+                there: plus(base, part.counts),
+            }
         }
     }
 }
 
-// What a section gets of the shapes of a list's items. The place after it. The pair of levels left and items left falls, as the reader's does.
+// What a section gets of the shapes of a list's items. The pair of levels left and items left falls, as the reader's does.
 fn put_items(
     section: Section,
     s: &[u8],
@@ -411,23 +458,30 @@ fn put_items(
     base: Counts,
     out: &mut [u8],
     first: usize,
-) -> usize
-    requires { ⌜ (from ≤ length (now s)) × (length (now s) < 65536) × (left ≤ maxLevels) × (count ≤ 16384) × Few (plus base (passItems pieces (passShape pieces left) kind count (now s) from noItems .made .counts)) × Room (length (now out)) first (passItems pieces (passShape pieces left) kind count (now s) from noItems .made .shapes section base) × Linked base ⌝ }
-    ensures { λ r. ⌜ Wrote (now (out .entry)) (now (out .exit)) first (passItems pieces (passShape pieces left) kind count (now (s .entry)) from noItems .made .shapes section base) r ⌝ }
+) -> PutItems
+    requires { ⌜ (from ≤ length (now s)) × (length (now s) < 65536) × (left ≤ maxLevels) × (count ≤ 16384) × FewAfter base (passItems pieces (passShape pieces left) kind count (now s) from noItems .made) × Room (length (now out)) first (passItems pieces (passShape pieces left) kind count (now s) from noItems .made .shapes section base) × Linked base ⌝ }
+    ensures { λ r. ⌜ PutItemsIs section (now (s .entry)) base (now (out .entry)) (now (out .exit)) first r (passItems pieces (passShape pieces left) kind count (now (s .entry)) from noItems) ⌝ }
 {
     let mut at = from;
     let mut to = first;
     let mut there = base;
+    let mut text = 0;
     let mut due = count;
     while 0 < due {
         due -= 1;
         let start = parts::past_name(s, at, kind);
-        let part = count_at(s, start, left);
-        to = put_at(section, s, start, left, there, out, to);
-        there = plus(there, part.counts);
+        text += counts::text_size(&s[at..start]);
+        let part = put_at(section, s, start, left, there, out, to);
+        to = part.to;
+        there = part.there;
         at = part.next;
     }
-    to
+    PutItems {
+        next: at,
+        to,
+        there,
+        text,
+    }
 }
 
 // A section of an accepted encoding's table, after its count. The place after it.
@@ -444,7 +498,7 @@ fn put_section(section: Section, count: usize, bytes: &[u8], out: &mut [u8], to:
         no_counts(),
         out,
         to + COUNT_SIZE,
-    )
+    ).to
 }
 
 // How many bytes a table of so many entries has.

@@ -17,7 +17,7 @@ put-at-requires c κs =
 returns : tie.Need-returns
 returns c =
     let w = c .before .before in let z = w .before .before in let v = z .before .before .before in let q = v .before .before .before .before in
-    wrote-after {u = twoBytes (q .args .count)} (omega (arith, q .pre .3)) (record { after = refl; wrote = v .put-two .ensures }) (rw (z .no-counts .ensures) at (w .put-at .ensures))
+    wrote-after {u = twoBytes (q .args .count)} (omega (arith, q .pre .3)) (record { after = refl; wrote = v .put-two .ensures }) (rw (z .no-counts .ensures) at (w .put-at .ensures .wrote))
 
 pub put-section-spec : {M : Type 1} → statement M
 put-section-spec =
