@@ -1,0 +1,67 @@
+-- What a run that writes leaves in the lent buffer.
+--     front-is        after `Written n` the answer is the first n bytes of the buffer, and there are n
+--     front-holds     where the answer is w, of n bytes, the run says so, and w is the front of the buffer
+--     all-kept        where the answer is a refusal, the run says its number and place, and the buffer is as it was
+--     refusal-is      after `Refused n p` the answer is that refusal
+--     fill-front-is, join-front-is, write-front-is, table-front-is     what a run that wrote n bytes answered
+--     fill-made, join-made, write-made, table-made         what that run was lent, and what it made
+-- Assumes nothing.
+use Prim.Native.Nat.{ℕ}
+use mathlib.Core.Path.{_≡_, sym, _∙_, ap}
+use mathlib.Core.List.{List}
+use lib.ListN.{length, take}
+use Rattle.meaning.specs.Answers.{Answer, answered, refused, fillAnswer, joinAnswer, writeAnswer, tableAnswer}
+use Rattle.meaning.proofs.Answers.{buffer-front, buffer-kept, Filled, fill-answered, Joined, join-answered}
+use Rattle.meaning.proofs.TableAnswers as Meant
+use Rattle.leaves.specs.declared.buffer.Made.{Made}
+use Rattle.leaves.specs.declared.buffer.Made.the-variants.{Written, Refused}
+use Rattle.promises.proofs.Calls.{Fill, Join, Write, Tabled}
+use Rattle.promises.proofs.Says.{Says, fill-says, join-says, write-says, table-says}
+
+-- After `Written n` the answer is the first n bytes of the buffer, and there are n.
+pub front-is : (a : Answer) (before : List ℕ) {n : ℕ} {after : List ℕ} → Says a before (Written n) after → (a ≡ answered (take n after)) × (length (take n after) ≡ n)
+front-is (answered w) before {n} {after} s = (ap answered (sym front), rw front (cc))
+  where
+    front : take n after ≡ w
+    front = let l : n ≡ length w = cc in rw (s .1, l) (buffer-front before w)
+front-is (refused m p) before {n} {after} s = (cc, cc)
+
+-- Where the answer is w, of n bytes, the run says so, and w is the front of the buffer.
+pub front-holds : (a : Answer) (before w : List ℕ) {r : Made} {after : List ℕ} {n : ℕ} → Says a before r after → a ≡ answered w → length w ≡ n → (r ≡ Written n) × (take n after ≡ w)
+front-holds a before w s h l = (s .0 ∙ rw (h, l), rw (← l, s .1, h) (buffer-front before w))
+
+-- Where the answer is a refusal, the run says its number and place, and the buffer is as it was.
+pub all-kept : (a : Answer) (before : List ℕ) (n p : ℕ) {r : Made} {after : List ℕ} → Says a before r after → a ≡ refused n p → (r ≡ Refused n p) × (after ≡ before)
+all-kept a before n p s h = (s .0 ∙ rw h, s .1 ∙ rw h (buffer-kept before n p))
+
+-- After `Refused n p` the answer is that refusal.
+pub refusal-is : (a : Answer) (before : List ℕ) {n p : ℕ} {after : List ℕ} → Says a before (Refused n p) after → a ≡ refused n p
+refusal-is (answered w) before s = cc
+refusal-is (refused m q) before s = cc
+
+module _ {before after : List ℕ} {n : ℕ} where
+  -- What a run that wrote n bytes answered.
+  pub fill-front-is : {template sheet : List ℕ} → Fill template sheet before (Written n) after → fillAnswer template sheet (length before) ≡ answered (take n after)
+  fill-front-is c = front-is _ before (fill-says c) .0
+
+  pub join-front-is : {first second : List ℕ} → Join first second before (Written n) after → joinAnswer first second (length before) ≡ answered (take n after)
+  join-front-is c = front-is _ before (join-says c) .0
+
+  pub write-front-is : {table : List ℕ} → Write table before (Written n) after → writeAnswer table (length before) ≡ answered (take n after)
+  write-front-is c = front-is _ before (write-says c) .0
+
+  pub table-front-is : {bytes : List ℕ} → Tabled bytes before (Written n) after → tableAnswer bytes (length before) ≡ answered (take n after)
+  table-front-is c = front-is _ before (table-says c) .0
+
+  -- What that run was lent, and what it made.
+  pub fill-made : {template sheet : List ℕ} → Fill template sheet before (Written n) after → Filled template sheet (take n after)
+  fill-made {template} {sheet} c = fill-answered template sheet (length before) (take n after) (c .small .0) (c .small .1) (fill-front-is c)
+
+  pub join-made : {first second : List ℕ} → Join first second before (Written n) after → Joined first second (take n after)
+  join-made {first} {second} c = join-answered first second (length before) (take n after) (c .small .0) (c .small .1) (join-front-is c)
+
+  pub write-made : {table : List ℕ} → Write table before (Written n) after → Meant.Wrote table (take n after)
+  write-made {table} c = Meant.write-answered table (length before) (take n after) (c .small) (write-front-is c)
+
+  pub table-made : {bytes : List ℕ} → Tabled bytes before (Written n) after → Meant.Tabled bytes (take n after)
+  table-made {bytes} c = Meant.table-answered bytes (length before) (take n after) (c .small) (table-front-is c)

@@ -1,0 +1,11 @@
+pub mod Calls
+pub mod Says
+pub mod Ordered
+pub mod Refusing
+pub mod Exported
+pub mod Once
+pub mod Front
+pub mod Exact
+pub mod Stages
+pub mod Card
+pub mod Useless

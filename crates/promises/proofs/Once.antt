@@ -1,0 +1,85 @@
+-- One outcome: any two outcomes that a call's contract allows agree, in the answer, the refusal and its place, and in every byte of a lent buffer.
+--     read-once .. table-once                   of each call
+--     board-read-once .. board-table-once       of each exported call
+-- Assumes nothing.
+use Prim.Native.Nat.{ℕ}
+use mathlib.Core.Path.{_≡_, sym, _∙_}
+use mathlib.Core.List.{List}
+use contract.Lifetimes.{Lfts}
+use denote.Ref.{now}
+use Rattle.leaves.specs.declared.buffer.Made.{Made}
+use Rattle.reader.specs.declared.Judgement.{Judgement}
+use Rattle.parts.specs.declared.FoundChild.{FoundChild}
+use Rattle.parts.specs.declared.FoundName.{FoundName}
+use Rattle.sheets.specs.declared.Checked.{Checked}
+use Rattle.board.specs.declared.Answer.{Answer}
+use Rattle.board.proofs.shiulbart_read.Reads as board-read
+use Rattle.board.proofs.shiulbart_child.Reads as board-child
+use Rattle.board.proofs.shiulbart_name.Reads as board-name
+use Rattle.board.proofs.shiulbart_sheet.Reads as board-sheet
+use Rattle.board.proofs.shiulbart_fill.Reads as board-fill
+use Rattle.board.proofs.shiulbart_join.Reads as board-join
+use Rattle.board.proofs.shiulbart_write.Reads as board-write
+use Rattle.board.proofs.shiulbart_table.Reads as board-table
+use Rattle.promises.proofs.Calls.{Read, ChildOf, NameOf, Check, Fill, Join, Write, Tabled}
+use Rattle.promises.proofs.Says.{read-says, child-says, name-says, check-says, fill-says, join-says, write-says, table-says}
+
+-- What equals one thing twice is one.
+agree : {A : Type 0} {x y z : A} → x ≡ z → y ≡ z → x ≡ y
+agree p q = p ∙ sym q
+
+-- So are an answer and a buffer.
+agree-both : {A B : Type 0} {x y z : A} {u v w : B} → (x ≡ z) × (u ≡ w) → (y ≡ z) × (v ≡ w) → (x ≡ y) × (u ≡ v)
+agree-both p q = (agree (p .0) (q .0), agree (p .1) (q .1))
+
+pub read-once : {bytes : List ℕ} {r r' : Judgement} → Read bytes r → Read bytes r' → r ≡ r'
+read-once p q = agree (read-says p) (read-says q)
+
+pub child-once : {bytes : List ℕ} {k : ℕ} {r r' : FoundChild} → ChildOf bytes k r → ChildOf bytes k r' → r ≡ r'
+child-once p q = agree (child-says p) (child-says q)
+
+pub name-once : {bytes : List ℕ} {k : ℕ} {r r' : FoundName} → NameOf bytes k r → NameOf bytes k r' → r ≡ r'
+name-once p q = agree (name-says p) (name-says q)
+
+pub check-once : {sheet : List ℕ} {r r' : Checked} → Check sheet r → Check sheet r' → r ≡ r'
+check-once p q = agree (check-says p) (check-says q)
+
+pub fill-once : {template sheet before after after' : List ℕ} {r r' : Made} → Fill template sheet before r after → Fill template sheet before r' after' → (r ≡ r') × (after ≡ after')
+fill-once p q = agree-both (fill-says p) (fill-says q)
+
+pub join-once : {first second before after after' : List ℕ} {r r' : Made} → Join first second before r after → Join first second before r' after' → (r ≡ r') × (after ≡ after')
+join-once p q = agree-both (join-says p) (join-says q)
+
+pub write-once : {table before after after' : List ℕ} {r r' : Made} → Write table before r after → Write table before r' after' → (r ≡ r') × (after ≡ after')
+write-once p q = agree-both (write-says p) (write-says q)
+
+pub table-once : {bytes before after after' : List ℕ} {r r' : Made} → Tabled bytes before r after → Tabled bytes before r' after' → (r ≡ r') × (after ≡ after')
+table-once p q = agree-both (table-says p) (table-says q)
+
+-- Of each exported call, whatever its arguments a are: s is what they are at its end.
+module _ (κs : Lfts 1) (r r' : Answer) where
+  pub board-read-once : (a s s' : _) → board-read.Post κs a r s → board-read.Post κs a r' s' → r ≡ r'
+  board-read-once a s s' p q = agree p q
+
+  pub board-child-once : (a s s' : _) → board-child.Post κs a r s → board-child.Post κs a r' s' → r ≡ r'
+  board-child-once a s s' p q = agree p q
+
+  pub board-name-once : (a s s' : _) → board-name.Post κs a r s → board-name.Post κs a r' s' → r ≡ r'
+  board-name-once a s s' p q = agree p q
+
+  pub board-sheet-once : (a s s' : _) → board-sheet.Post κs a r s → board-sheet.Post κs a r' s' → r ≡ r'
+  board-sheet-once a s s' p q = agree p q
+
+module _ (κs : Lfts 3) (r r' : Answer) where
+  pub board-fill-once : (a s s' : _) → board-fill.Post κs a r s → board-fill.Post κs a r' s' → (r ≡ r') × (now (s .1 .1 .0) ≡ now (s' .1 .1 .0))
+  board-fill-once a s s' p q = agree-both p q
+
+  pub board-join-once : (a s s' : _) → board-join.Post κs a r s → board-join.Post κs a r' s' → (r ≡ r') × (now (s .1 .1 .0) ≡ now (s' .1 .1 .0))
+  board-join-once a s s' p q = agree-both p q
+
+module _ (κs : Lfts 2) (r r' : Answer) where
+  pub board-write-once : (a s s' : _) → board-write.Post κs a r s → board-write.Post κs a r' s' → (r ≡ r') × (now (s .1 .0) ≡ now (s' .1 .0))
+  board-write-once a s s' p q = agree-both p q
+
+  pub board-table-once : (a s s' : _) → board-table.Post κs a r s → board-table.Post κs a r' s' → (r ≡ r') × (now (s .1 .0) ≡ now (s' .1 .0))
+  board-table-once a s s' p q = agree-both p q

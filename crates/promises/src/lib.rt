@@ -1,0 +1,1 @@
+// What the boards rely on, stated over the public calls and proved (proofs/). No code.
