@@ -347,7 +347,7 @@ fn put_plain(
     )
 }
 
-// Where a shape was written: the place after it in the encoding, the place after its entries in the table, and how many of each are there then.
+// Where a shape was written: the place after it in the encoding, the place after its entries in the table, and how many entries are there then.
 pub struct Put {
     pub next: usize,
     pub to: usize,
