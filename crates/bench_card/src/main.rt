@@ -1,286 +1,155 @@
-// Runs the bench card's cases of fill, join and node tables (01-scope.md, "Bytes on the bench card" and "Slips a good mechanic makes") and prints, for each, the
-// answer and every byte of the lent buffer, which held EE before.
-use leaves::buffer::Made;
-use libc::STDOUT_FILENO;
+// Runs every case of the bench card (01-scope.md, "Bytes on the bench card", "To run" and "Slips a good mechanic makes"), and some of ours, and
+// prints a line for each.
+mod inputs;
+mod show;
 
-fn print(text: &[u8]) {
-    io::write_all(STDOUT_FILENO, text);
+use inputs::put_nested;
+use inputs::put_repeated;
+use show::show_child;
+use show::show_fill;
+use show::show_join;
+use show::show_long_fill;
+use show::show_long_read;
+use show::show_long_write;
+use show::show_measure;
+use show::show_read;
+use show::show_shape;
+use show::show_table;
+use show::show_write;
+
+// M1 to M11.
+fn readings() {
+    let m4 = b"\x42\x07\x00\x02\x01\x61\x20\x01\x62\x62";
+    show_shape(b"M1", b"\x20");
+    show_shape(b"M2", b"\x76");
+    show_read(b"M3", b"\x40\x01\x00\x20");
+    show_shape(b"M4", m4);
+    show_child(b"M4", m4, 1);
+    show_shape(b"M5", b"\x45\x02\x00\x20\x00");
+    show_read(b"M6", b"\x45\x02\x00\x1F\x00");
+    show_read(b"M7", b"");
+    show_read(b"M8", b"\x20\x20");
+    show_shape(b"M9", b"\x43\x02\x00\x00\x20");
+    show_read(b"M10", b"\x44\x03\x00\x81\x00\x00");
+    show_read(b"M11", b"\xA0");
 }
 
-fn print_number(n: usize) {
-    io::print_decimal(STDOUT_FILENO, n as u64);
+// M12 to M14. Two of them are slips too: replacing again in what was just put in, and keeping the long Array after its blank became Int.
+fn fillings() {
+    let swap = b"\x02\x00\x00\x00\x01\x00\x01\x00\x01\x00\x02\x00\x01\x00";
+    show_fill(b"M12", b"\x41\x02\x00\x00\x01", swap);
+    let int = b"\x01\x00\x00\x00\x01\x00\x01\x00\x20";
+    show_fill(b"M13", b"\x40\x01\x00\x00", int);
+    let first = b"\x01\x00\x00\x00\x01\x00\x01\x00\x01";
+    let second = b"\x01\x00\x01\x00\x01\x00\x01\x00\x20";
+    let mut joined = [0xEEu8; 16];
+    show_join(b"M14", first, second, &mut joined);
 }
 
-fn digit(n: u8) -> u8 {
-    if n < 10 { b'0' + n } else { b'A' + n % 16 - 10 }
+// Symbol of one text of 2,042 letters, and of 2,043: from the reader, and from the writer.
+fn symbols() {
+    let mut most = [0u8; 2048];
+    put_repeated(b"\x44\xFD\x07\x01\xFA\x0F", b"x", &mut most);
+    show_long_read(b"Symbol of 2,042 letters", &most);
+    let most_front =
+        b"\x01\x00\x09\x00\x00\x00\x01\x00\x01\x00\x00\x00\x00\x00\x01\x00\x00\x00\xFA\x07\xFA\x07";
+    let mut most_table = [0u8; 2064];
+    put_repeated(most_front, b"x", &mut most_table);
+    show_long_write(b"table of Symbol of 2,042 letters", &most_table);
+    let mut over = [0u8; 2049];
+    put_repeated(b"\x44\xFE\x07\x01\xFB\x0F", b"x", &mut over);
+    show_long_read(b"Symbol of 2,043 letters", &over);
+    let over_front =
+        b"\x01\x00\x09\x00\x00\x00\x01\x00\x01\x00\x00\x00\x00\x00\x01\x00\x00\x00\xFB\x07\xFB\x07";
+    let mut over_table = [0u8; 2065];
+    put_repeated(over_front, b"x", &mut over_table);
+    show_long_write(b"table of Symbol of 2,043 letters", &over_table);
 }
 
-fn print_bytes(bytes: &[u8]) {
-    let mut i = 0;
-    while i < bytes.len() {
-        let b = bytes[i];
-        let text = [b' ', digit(b / 16), digit(b % 16)];
-        print(&text);
-        i += 1;
-    }
+// "To run", and the byte that the page's first section names.
+fn to_run() {
+    let mut fifteen = [0u8; 43];
+    put_nested(0x60, &mut fifteen);
+    show_long_read(b"fifteen Arrays round Int", &fifteen);
+    let mut sixteen = [0u8; 46];
+    put_nested(0x60, &mut sixteen);
+    show_long_read(b"sixteen Arrays round Int", &sixteen);
+    symbols();
+    show_read(b"Symbol of a cut text", b"\x44\x02\x00\x01\x05");
+    show_read(b"Array of Int", b"\x60");
 }
 
-// `ok LENGTH` or `no NUMBER PLACE`.
-fn print_made(name: &[u8], made: Made) {
-    print(name);
-    match made {
-        Made::Written { length } => {
-            print(b": ok ");
-            print_number(length);
-        }
-        Made::Refused { number, place } => {
-            print(b": no ");
-            print_number(number);
-            print(b" ");
-            print_number(place);
-        }
-    }
-}
-
-fn show_fill(name: &[u8], template: &[u8], sheet: &[u8]) {
-    let mut out = [0xEEu8; 6];
-    let made = fills::fill(template, sheet, &mut out);
-    print_made(name, made);
-    print_bytes(&out);
-    print(b"\n");
-}
-
-fn show_join(name: &[u8], first: &[u8], second: &[u8]) {
-    let mut out = [0xEEu8; 16];
-    let made = joins::join(first, second, &mut out);
-    print_made(name, made);
-    print_bytes(&out);
-    print(b"\n");
-}
-
-// Byte i of the Function of 500 Arrays of Variable 0, returning Int: 2,006 bytes.
-fn arrays_byte(i: usize) -> u8 {
-    let head = [0x43u8, 0xD3, 0x07, 0xF4, 0x03];
-    let array = [0x40u8, 0x01, 0x00, 0x00];
-    if i < 5 {
-        return head[i];
-    }
-    if i < 2005 {
-        return array[(i - 5) % 4];
-    }
-    0x20
-}
-
-fn put_arrays(out: &mut [u8]) {
-    let mut i = 0;
-    while i < out.len() {
-        out[i] = arrays_byte(i);
-        i += 1;
-    }
-}
-
-fn show_arrays() {
+// The slip of refusing stage by stage: a Function of 500 Arrays of Variable 0, returning Int.
+fn stages() {
     let mut template = [0u8; 2006];
-    put_arrays(&mut template);
-    let workshop = [1u8, 0, 0, 0, 5, 0, 5, 0, 0x45, 0x02, 0x00, 0x28, 0x00];
-    let site = [1u8, 0, 0x28, 0, 1, 0, 1, 0, 0x20];
-    let mut out = [0u8; 2048];
-    print_made(
-        b"500 Arrays, 0 as Variable 40",
-        fills::fill(&template, &workshop, &mut out),
+    put_repeated(b"\x43\xD3\x07\xF4\x03", b"\x40\x01\x00\x00", &mut template);
+    template[2005] = 0x20;
+    show_long_read(b"500 Arrays", &template);
+    let first = b"\x01\x00\x00\x00\x05\x00\x05\x00\x45\x02\x00\x28\x00";
+    show_measure(b"500 Arrays", &template, first);
+    show_long_fill(b"500 Arrays", &template, first);
+    let second = b"\x01\x00\x28\x00\x01\x00\x01\x00\x20";
+    let mut joined = [0xEEu8; 14];
+    show_join(
+        b"0 as Variable 40 and 40 as Int",
+        first,
+        second,
+        &mut joined,
     );
-    print(b"\n");
-    let mut joined = [0u8; 14];
-    print_made(
-        b"joined with 40 as Int",
-        joins::join(&workshop, &site, &mut joined),
-    );
-    print_bytes(&joined);
-    print(b"\n");
-    print_made(
-        b"500 Arrays, joined",
-        fills::fill(&template, &joined, &mut out),
-    );
-    print(b"\n");
+    show_long_fill(b"500 Arrays", &template, &joined);
 }
 
-// How many bytes were written.
-fn written(made: Made) -> usize {
-    match made {
-        Made::Written { length } => length,
-        Made::Refused {
-            number: _,
-            place: _,
-        } => 0,
-    }
+// The slip of taking a packed byte at level 16, where a byte that is not packed may stand: fifteen Arrays round Map of Int to Int, and round Variable 0.
+fn level_16() {
+    let mut bytes = [0u8; 46];
+    put_nested(0x65, &mut bytes);
+    show_long_read(b"packed Map at level 16", &bytes);
+    put_nested(0x00, &mut bytes);
+    show_long_read(b"Variable 0 at level 16", &bytes);
 }
 
-// The table of an encoding, made in a lent buffer and written back.
-fn show_both(name: &[u8], bytes: &[u8], table: &mut [u8]) {
-    let made = way_back::to_table(bytes, table);
-    print_made(name, made);
-    print_bytes(table);
-    print(b"\n");
-    let length = written(made);
-    if length == 0 {
-        return;
-    }
-    if length <= table.len() {
-        show_write(name, &table[..length]);
-    }
-}
-
-fn show_table(name: &[u8], bytes: &[u8]) {
-    let mut table = [0xEEu8; 80];
-    show_both(name, bytes, &mut table);
-}
-
-// The encoding that a table means.
-fn show_write(name: &[u8], table: &[u8]) {
-    let mut out = [0xEEu8; 16];
-    let made = writer::write(table, &mut out);
-    print_made(name, made);
-    print_bytes(&out);
-    print(b"\n");
-}
-
-// Byte i of the table of a Symbol of one text, whose length is 7 times 256 and a low byte.
-fn symbol_byte(i: usize, low: u8) -> u8 {
-    let front = [
-        1u8,
-        0,
-        9,
-        0,
-        0,
-        0,
-        1,
-        0,
-        1,
-        0,
-        0,
-        0,
-        0,
-        0,
-        1,
-        0,
-        0,
-        0,
-        low,
-        7,
-        low,
-        7,
-    ];
-    if i < 22 {
-        return front[i];
-    }
-    b'x'
-}
-
-fn put_symbol(out: &mut [u8], low: u8) {
-    let mut i = 0;
-    while i < out.len() {
-        out[i] = symbol_byte(i, low);
-        i += 1;
-    }
-}
-
-fn show_symbol(name: &[u8], table: &[u8]) {
-    let mut out = [0u8; 2048];
-    print_made(name, writer::write(table, &mut out));
-    print(b"\n");
-}
-
-fn show_tables() {
-    show_table(
-        b"M4's table",
-        &[0x42, 7, 0, 2, 1, 0x61, 0x20, 1, 0x62, 0x62],
+// Cases that are ours, not the card's: fill and join.
+fn our_fillings() {
+    let int = b"\x01\x00\x00\x00\x01\x00\x01\x00\x20";
+    let map = b"\x01\x00\x00\x00\x01\x00\x01\x00\x65";
+    let mut deep = [0u8; 46];
+    put_nested(0x00, &mut deep);
+    show_long_fill(b"ours, Int at level 16", &deep, int);
+    show_long_fill(b"ours, packed Map at level 16", &deep, map);
+    let record = b"\x42\x07\x00\x02\x01\x61\x00\x01\x62\x62";
+    show_fill(b"ours, buffer too short", record, int);
+    let mut joined = [0xEEu8; 16];
+    show_join(
+        b"ours, second sheet cut short",
+        int,
+        b"\x01\x00\x01",
+        &mut joined,
     );
-    show_table(
-        b"Record in a Record",
-        &[
-            0x42,
-            13,
-            0,
-            2,
-            1,
-            0x61,
-            0x42,
-            4,
-            0,
-            1,
-            1,
-            0x62,
-            0x21,
-            1,
-            0x63,
-            0x75,
-        ],
-    );
-    show_table(
-        b"empty Record after a link",
-        &[0x43, 6, 0, 1, 0x60, 0x42, 1, 0, 0],
-    );
-    show_table(b"M3's table", &[0x40, 1, 0, 0x20]);
-    show_write(
-        b"shared Variable",
-        &[
-            2,
-            0,
-            10,
-            0,
-            7,
-            0,
-            0,
-            0,
-            6,
-            0,
-            0,
-            0,
-            2,
-            0,
-            2,
-            0,
-            0,
-            0,
-            0,
-            0,
-            0,
-            0,
-            0,
-            0,
-            0,
-            0,
-            0,
-            0,
-        ],
-    );
-    show_write(
-        b"its own target",
-        &[1, 0, 5, 0, 0, 0, 1, 0, 1, 0, 0, 0, 0, 0, 0, 0, 0, 0],
-    );
-    show_write(b"no nodes", &[0, 0]);
-    show_write(
-        b"leftover byte",
-        &[1, 0, 0, 0, 0, 0, 0, 0, 0, 0, 0, 0, 0, 0, 7],
-    );
-    let mut fits = [0u8; 2064];
-    put_symbol(&mut fits, 0xFA);
-    show_symbol(b"Symbol of 2,042 letters", &fits);
-    let mut long = [0u8; 2065];
-    put_symbol(&mut long, 0xFB);
-    show_symbol(b"Symbol of 2,043 letters", &long);
+}
+
+// Ours too: tables.
+fn our_tables() {
+    let inner = b"\x42\x0D\x00\x02\x01\x61\x42\x04\x00\x01\x01\x62\x21\x01\x63\x75";
+    show_table(b"ours, Record in a Record", inner);
+    let empty = b"\x43\x06\x00\x01\x60\x42\x01\x00\x00";
+    show_table(b"ours, empty Record after a link", empty);
+    show_table(b"ours, M3", b"\x40\x01\x00\x20");
+    let shared =
+        b"\x02\x00\x0A\x00\x07\x00\x00\x00\x06\x00\x00\x00\x02\x00\x02\x00\x00\x00\x00\x00\x00\x00\x00\x00\x00\x00\x00\x00";
+    show_write(b"ours, shared Variable", shared);
+    let own = b"\x01\x00\x05\x00\x00\x00\x01\x00\x01\x00\x00\x00\x00\x00\x00\x00\x00\x00";
+    show_write(b"ours, its own target", own);
+    show_write(b"ours, no nodes", b"\x00\x00");
+    let more = b"\x01\x00\x00\x00\x00\x00\x00\x00\x00\x00\x00\x00\x00\x00\x07";
+    show_write(b"ours, leftover byte", more);
 }
 
 fn main() {
-    let swapped = [2u8, 0, 0, 0, 1, 0, 1, 0, 1, 0, 2, 0, 0x01, 0x00];
-    show_fill(b"M12", &[0x41, 2, 0, 0, 1], &swapped);
-    let int = [1u8, 0, 0, 0, 1, 0, 1, 0, 0x20];
-    show_fill(b"M13", &[0x40, 1, 0, 0], &int);
-    show_fill(b"7 bytes for 6", &[0x42, 4, 0, 1, 1, 0x61, 0], &int);
-    let one = [1u8, 0, 0, 0, 1, 0, 1, 0, 0x01];
-    let other = [1u8, 0, 1, 0, 1, 0, 1, 0, 0x20];
-    show_join(b"M14", &one, &other);
-    show_join(b"second sheet cut short", &one, &[1, 0, 1]);
-    show_arrays();
-    show_tables();
+    readings();
+    fillings();
+    to_run();
+    stages();
+    level_16();
+    our_fillings();
+    our_tables();
 }

@@ -1,20 +1,20 @@
--- `bench_card::put_arrays` ends, and stays inside the buffer.
+-- `bench_card::inputs::put_repeated` ends, and stays inside the buffer.
 -- Assumes nothing.
 use borrow.Author.Needs.{needs}
 use mathlib.Core.Path.{_≡_}
 use Prim.Native.Nat.{_-_, _≤_}
 use lib.ListN.{length, length-set}
-use Rattle.bench_card.proofs.put_arrays.Statement.{statement}
-use Rattle.bench_card.proofs.put_arrays.Tie as tie
+use Rattle.bench_card.proofs.inputs.put_repeated.Statement.{statement}
+use Rattle.bench_card.proofs.inputs.put_repeated.Tie as tie
 
 abbrev Inv-loop : tie.InvT-loop
-Inv-loop out₀ i₀ out i = (i ≤ length out) × (length out ≡ length out₀)
+Inv-loop front part out₀ i₀ out i = (i ≤ length out) × (length out ≡ length out₀)
 
 abbrev μ-loop : tie.MeasureT-loop
-μ-loop out₀ i₀ out i = length out - i
+μ-loop front part out₀ i₀ out i = length out - i
 
-pub put-arrays-spec : {M : Type 1} → statement M
-put-arrays-spec =
+pub put-repeated-spec : {M : Type 1} → statement M
+put-repeated-spec =
     tie.close
     (tie.spec
     Inv-loop
