@@ -1,6 +1,8 @@
 //! A reference model of shapes, sheets and fillings, written from 01-scope.md and from the base
 //! part of DECISIONS-GIVEN.md, and from nothing else. Lines that start with `>` in comments, and
 //! words in double quotes, are the documents' own.
+//!
+//! The program `card` (src/bin/card.rs) runs the bench card's cases over it.
 #![forbid(unsafe_code)]
 
 pub mod limits;
