@@ -26,7 +26,7 @@ use Rattle.meaning.specs.Numbered.{find, put, over, each}
 use Rattle.meaning.specs.Sheet.{plug, orBlank, entriesBytes, encodings, sheetBytes}
 use Rattle.meaning.specs.SheetReading.{sum, readEntries, orEntry, readEncodings, readSecond, readSheet}
 use Rattle.meaning.specs.Table.{nodesBytes, linksBytes, namesBytes, tableBytes, nodeShape, shapeIn, namesFrom, joined, withNode, grow}
-use Rattle.meaning.specs.TableReading.{sectionAt, nodesIn, linksIn, namesIn, goodNode, checkNodes, checkNames, ended, readTable}
+use Rattle.meaning.specs.TableReading.{sectionAt, nodesIn, namesIn, goodNode, checkNodes, checkNames, ended, readTable}
 use Rattle.meaning.specs.Answers.{Answer, answered, onto, inRoom, made, allMade, madeSheet, fillAnswer, joinAnswer, writeAnswer, tableAnswer}
 use Rattle.meaning.proofs.Answers.{room-answered, room-enough, room-refused}
 use Rattle.leaves.specs.declared.buffer.Made.the-variants.{Written, Refused}
@@ -100,7 +100,7 @@ record Examples : Type 0 where
   float-table-made : Makes (tableAnswer aFloat) floatTable
 
 computed : Examples
-unfolding leb128 charSize charsSize wellFormed depth count code primOf classOf asPrim arrayBytes mapBytes blankBytes encode next readCount readText hasShort finish readFields readPayload readLong readClass readShape atEnd reading fieldShapes children fieldNames names fieldItems items nameBytes shapeBytes listBytes listStart childOf find put over each plug orBlank entriesBytes encodings sheetBytes sum readEntries orEntry readEncodings readSecond readSheet nodesBytes linksBytes namesBytes tableBytes nodeShape shapeIn namesFrom joined withNode grow sectionAt nodesIn linksIn namesIn goodNode checkNodes checkNames ended readTable onto made allMade madeSheet fillAnswer joinAnswer writeAnswer tableAnswer
+unfolding leb128 charSize charsSize wellFormed depth count code primOf classOf asPrim arrayBytes mapBytes blankBytes encode next readCount readText hasShort finish readFields readPayload readLong readClass readShape atEnd reading fieldShapes children fieldNames names fieldItems items nameBytes shapeBytes listBytes listStart childOf find put over each plug orBlank entriesBytes encodings sheetBytes sum readEntries orEntry readEncodings readSecond readSheet nodesBytes linksBytes namesBytes tableBytes nodeShape shapeIn namesFrom joined withNode grow sectionAt nodesIn namesIn goodNode checkNodes checkNames ended readTable onto made allMade madeSheet fillAnswer joinAnswer writeAnswer tableAnswer
 computed = record {
   int-said = refl;
   record-said = refl;
