@@ -11,7 +11,6 @@ use show::show_join;
 use show::show_long_fill;
 use show::show_long_read;
 use show::show_long_write;
-use show::show_measure;
 use show::show_read;
 use show::show_shape;
 use show::show_table;
@@ -86,7 +85,6 @@ fn stages() {
     template[2005] = 0x20;
     show_long_read(b"500 Arrays", &template);
     let first = b"\x01\x00\x00\x00\x05\x00\x05\x00\x45\x02\x00\x28\x00";
-    show_measure(b"500 Arrays", &template, first);
     show_long_fill(b"500 Arrays", &template, first);
     let second = b"\x01\x00\x28\x00\x01\x00\x01\x00\x20";
     let mut joined = [0xEEu8; 14];

@@ -2,12 +2,9 @@
 // how many they are. The buffer is every byte of it, where one was lent; it held EE before.
 use leaves::buffer::Made;
 use leaves::limits::MAX_BYTES;
-use leaves::refusals::SHEET_BROKEN;
 use libc::STDOUT_FILENO;
 use parts::FoundChild;
 use reader::Judgement;
-use sheets::Checked;
-use sheets::INDEX_SIZE;
 ghost use Prim.Native.Nat.{_≤_, _<_};
 ghost use lib.ListN.{length};
 
@@ -145,27 +142,6 @@ pub fn show_long_fill(name: &[u8], template: &[u8], sheet: &[u8]) {
     print_long_input(name, template);
     print_input(b" filled with", sheet);
     print_made(made, &out);
-}
-
-// Length and depth of a filled template, also where it is too long to be made. The template itself has the length of an encoding, or there is no line.
-pub fn show_measure(name: &[u8], template: &[u8], sheet: &[u8]) {
-    if MAX_BYTES < template.len() {
-        return;
-    }
-    let mut index = [0u16; INDEX_SIZE];
-    print_long_input(name, template);
-    print_input(b" measured with", sheet);
-    match sheets::check_into(sheet, &mut index) {
-        Checked::Broken { place } => print_two(b": no", SHEET_BROKEN, place),
-        Checked::Sound {
-            entries: _,
-            bytes: _,
-        } => {
-            let size = sizes::measure(template, sheet, &index);
-            print_two(b": ok", size.length, size.depth);
-        }
-    }
-    print(b"\n");
 }
 
 // The length of a joined sheet, which is left in the lent buffer.

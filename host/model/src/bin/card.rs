@@ -10,8 +10,8 @@
 
 use model::parts::{child, Child};
 use model::read::read;
-use model::shape::{encode, encoded_len, Shape};
-use model::sheet::{fill, join, replace, Sheet};
+use model::shape::{encode, Shape};
+use model::sheet::{fill, join, Sheet};
 use model::table::{to_table, write};
 use model::Refusal;
 
@@ -121,13 +121,6 @@ fn show_long_fill(name: &str, template: &[u8], sheet: &[u8]) {
     let case = long_input(name, template) + &input(" filled with", sheet);
     let made = fill(template, sheet, ENCODING_ROOM);
     written(&case, &made, ENCODING_ROOM);
-}
-
-/// Length and depth of a filled template, also where it is too long to be made.
-fn show_measure(name: &str, template: &Shape, sheet: &Sheet) {
-    let case = long_input(name, &encode(template)) + &input(" measured with", &sheet.bytes());
-    let made = replace(template, sheet);
-    numbers(&case, Ok(vec![encoded_len(&made), made.depth()]));
 }
 
 /// Answers the joined sheet too.
@@ -269,9 +262,7 @@ fn stages() {
     let template = function(vec![array(Shape::Variable(0)); 500], Shape::Int);
     let bytes = encode(&template);
     show_long_read("500 Arrays", &bytes);
-    let first = one(0, Shape::Variable(40));
-    show_measure("500 Arrays", &template, &first);
-    let first = first.bytes();
+    let first = one(0, Shape::Variable(40)).bytes();
     show_long_fill("500 Arrays", &bytes, &first);
     let second = one(40, Shape::Int).bytes();
     let joined = show_join("0 as Variable 40 and 40 as Int", &first, &second, 14);
