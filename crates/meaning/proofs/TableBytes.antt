@@ -1,4 +1,5 @@
 -- Reading a table accepts exactly the bytes of the tables within the limits.
+--     nodes-append, nodes-length     the bytes of several nodes
 --     read-table            the bytes of a table are read as that table
 --     table-read            what is read as a table are the bytes of that table, and it is within the limits
 --     accepts-table         both in one
@@ -35,8 +36,14 @@ use Rattle.meaning.proofs.Sound.{not-got, same-got, by-next, by-else, b
 use Rattle.meaning.proofs.Faults.{not-bad}
 use Rattle.meaning.proofs.SheetBytes.{two-bytes}
 
+-- The bytes of nodes one after the other are their bytes one after the other.
+pub nodes-append : (ns ms : List Node) → nodesBytes (ns ++ ms) ≡ nodesBytes ns ++ nodesBytes ms
+unfolding nodesBytes
+nodes-append [] ms = refl
+nodes-append (n ∷ ns) ms = rw (nodes-append ns ms)
+
 -- Nodes have 6 bytes each.
-nodes-length : (ns : List Node) → length (nodesBytes ns) ≡ nodeSize * length ns
+pub nodes-length : (ns : List Node) → length (nodesBytes ns) ≡ nodeSize * length ns
 unfolding nodesBytes
 nodes-length [] = refl
 nodes-length (n ∷ ns) = omega (arith, nodes-length ns)

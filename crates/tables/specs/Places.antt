@@ -1,13 +1,14 @@
 -- NOT TO BE BELIEVED: proved to be what reading a table means (proofs/Whole.antt). 01-scope.md, "Node table", once more, as the code goes: by
 -- places in the bytes of the nodes and in the rest of the table, from the links' count on.
 use Prim.Native.Nat.{ℕ, zero, suc, _+_, _*_, _-_, _≤_, _<_}
-use mathlib.Core.List.{List}
+use mathlib.Core.List.{List, _∷_, _++_}
 use mathlib.Core.Bool.{Bool, true, false, not, _&&_}
 use lib.Dec.{ltb, leb, eqb}
 use lib.ListN.{length, getD, drop}
 use lib.Seq.{slice}
 use Rattle.meaning.specs.Rules.{_⇒_∣_}
 use Rattle.meaning.specs.Limits.{maxNodes, maxLinks, maxNames, maxText}
+use Rattle.meaning.specs.Numbers.{twoBytes}
 use Rattle.meaning.specs.Utf8.{utf8}
 use Rattle.meaning.specs.SheetReading.{countSize, numberAt}
 use Rattle.meaning.specs.Table as Meant
@@ -62,6 +63,10 @@ tableIn nodes rest count links names = record {
   names = namesIn names (drop (namePlace links 0) rest);
   text = drop (textPlace links names) rest;
 }
+
+-- the bytes of a node whose second byte is zero
+abbrev pub nodeBytes : ℕ → ℕ → ℕ → List ℕ
+nodeBytes kind a b = kind ∷ 0 ∷ twoBytes a ++ twoBytes b
 
 -- node i, link x and name k by their bytes, and what the code's own answers say
 abbrev pub nodeAt : List ℕ → ℕ → Meant.Node

@@ -1,5 +1,7 @@
 // The checks of a node table, in place (01-scope.md, "Node table"). The bytes of the nodes and the rest, from the links' count on, come as two
 // slices, so that a caller may have the nodes elsewhere.
+use leaves::buffer::put_byte;
+use leaves::buffer::put_two;
 use leaves::limits::MAX_LINKS;
 use leaves::limits::MAX_NAMES;
 use leaves::limits::MAX_TEXT;
@@ -8,7 +10,8 @@ ghost use Prim.Native.Nat.{_≤_, _<_, _+_, _*_};
 ghost use lib.ListN.{length};
 ghost use Rattle.meaning.specs.Limits.{maxNodes, maxLinks, maxNames, maxText};
 ghost use Rattle.meaning.specs.TableReading.{nodeSize, linkSize, nameSize};
-ghost use Rattle.tables.specs.Places.{linkPlace, namePlace, textPlace, sectionOf, layoutAt, nodeSaid, nodeAt, linkSaid, linkAt, targetKind, Aimed, nameSaid, nameAt, goodBy, goodFrom, goodSpan, goodAt, firstBadNode, firstBadName};
+ghost use Rattle.leaves.specs.Written.{written};
+ghost use Rattle.tables.specs.Places.{nodeBytes, linkPlace, namePlace, textPlace, sectionOf, layoutAt, nodeSaid, nodeAt, linkSaid, linkAt, targetKind, Aimed, nameSaid, nameAt, goodBy, goodFrom, goodSpan, goodAt, firstBadNode, firstBadName};
 
 // A count has two bytes, as has every number of a table but kinds.
 pub const COUNT_SIZE: usize = 2;
@@ -324,4 +327,15 @@ pub fn bad_name(rest: &[u8], links: usize, names: usize, text: usize) -> usize
         }
     }
     k
+}
+
+// A node's six bytes, the second of which is zero.
+pub fn put_node(out: &mut [u8], to: usize, kind: u8, a: usize, b: usize)
+    requires { ⌜ (to + nodeSize ≤ length (now out)) × (a < 65536) × (b < 65536) ⌝ }
+    ensures { λ _. ⌜ now (out .exit) ≡ written (now (out .entry)) to (nodeBytes kind a b) ⌝ }
+{
+    put_byte(out, to, kind);
+    put_byte(out, to + 1, 0);
+    put_two(out, to + 2, a);
+    put_two(out, to + 4, b);
 }

@@ -1,5 +1,4 @@
 -- Laws of the entries of a table (specs/Pieces.antt), as they are written.
---     node-wrote     a node's kind, zero and two numbers are its entry
 --     pair-wrote     two numbers, written one after the other
 --     text-length    how long a name's text is
 --     text-wrote     the bytes of a name from its text's start on are its text
@@ -11,7 +10,7 @@
 -- Assumes nothing.
 use mathlib.Core.Path.{_≡_, refl, _∙_}
 use mathlib.Core.Bool.{true, false}
-use mathlib.Core.List.{List, [], _∷_, _++_, append-assoc}
+use mathlib.Core.List.{List, [], _++_, append-assoc}
 use Prim.Native.Nat.{ℕ, zero, suc, _+_, _-_, _/_, _%_, _≤_, _<_}
 use native.Mathlib.Nat.{add-zero, zero-add}
 use native.Mathlib.Omega.{arith}
@@ -35,17 +34,6 @@ use Rattle.way_back.specs.Puts.{Wrote, itemsAt}
 use Rattle.way_back.proofs.Wrote.{wrote-after}
 use Rattle.way_back.proofs.Grows.{counted}
 use Rattle.way_back.proofs.Texted.{text-none}
-
--- A node's kind, zero and two numbers, written one after the other, are its entry.
-pub node-wrote : (d e f g o : List ℕ) (to kind a b : ℕ) → to + 6 ≤ length d
-    → e ≡ written d to (kind ∷ []) → f ≡ written e (to + 1) (0 ∷ []) → g ≡ written f (to + 2) (twoBytes a) → o ≡ written g (to + 4) (twoBytes b)
-    → Wrote d o to (nodeEntry Nodes kind a b) (to + 6)
-node-wrote d e f g o to kind a b room p q r s =
-    let one : Wrote d e to (kind ∷ []) (to + 1) = record { after = omega arith; wrote = p } in
-    let two : Wrote e f (to + 1) (0 ∷ []) (to + 2) = record { after = omega arith; wrote = q } in
-    let four : Wrote f g (to + 2) (twoBytes a) (to + 4) = record { after = omega arith; wrote = r } in
-    let six : Wrote g o (to + 4) (twoBytes b) (to + 6) = record { after = omega arith; wrote = s } in
-    wrote-after (omega arith) (wrote-after (omega arith) (wrote-after (omega arith) one two) four) six
 
 -- Two numbers, written one after the other.
 pub pair-wrote : (d e f : List ℕ) (to m n : ℕ) → to + 4 ≤ length d → e ≡ written d to (twoBytes m) → f ≡ written e (to + 2) (twoBytes n)

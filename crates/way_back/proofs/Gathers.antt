@@ -17,6 +17,7 @@ use lib.ListN.{length, length-append}
 use Rattle.meaning.specs.Rules.{_⇒_∣_}
 use Rattle.meaning.specs.Encode.{textBytes}
 use Rattle.meaning.specs.Table.{Node, Link, Name, Table, node, nodesBytes, linksBytes, namesBytes, Grown, namesFrom, joined, bareLinks, namedLinks, textLinks, withNode}
+use Rattle.meaning.proofs.TableBytes.{nodes-append}
 use Rattle.meaning.proofs.TableOf.{names-length}
 use Rattle.reader.specs.Walk.{named, shaped}
 use Rattle.reader.specs.declared.first.Kind.{Kind}
@@ -72,11 +73,6 @@ gathers-text {T} {D} {a} name g = record {
 }
 
 -- Entries one after the other are their bytes one after the other.
-nodes-append : (ns ms : List Node) → nodesBytes (ns ++ ms) ≡ nodesBytes ns ++ nodesBytes ms
-unfolding nodesBytes
-nodes-append [] ms = refl
-nodes-append (n ∷ ns) ms = rw (nodes-append ns ms)
-
 links-append : (ls ms : List Link) → linksBytes (ls ++ ms) ≡ linksBytes ls ++ linksBytes ms
 unfolding linksBytes
 links-append [] ms = refl

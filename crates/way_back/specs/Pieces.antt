@@ -2,7 +2,7 @@
 -- of the shape has (proofs/Grown.antt, proofs/Making.antt). No public contract cites it.
 use Prim.Native.Nat.{ℕ, zero, suc, _+_, _-_, _/_, _%_, _<_}
 use mathlib.Core.Bool.{Bool, true, false}
-use mathlib.Core.List.{List, [], _∷_, _++_}
+use mathlib.Core.List.{List, [], _++_}
 use lib.Dec.{ltb}
 use lib.ListN.{length, drop}
 use lib.Seq.{slice}
@@ -18,6 +18,7 @@ use Rattle.reader.specs.declared.first.Kind.{Kind}
 use Rattle.reader.specs.declared.first.Kind.the-variants.{Array, Map, Record, Function, Symbol, Variable}
 use Rattle.parts.specs.Steps.{headSize, pastName, listAt}
 use Rattle.parts.specs.Pass.{came, Pass, Passer, passShape}
+use Rattle.tables.specs.Places.{nodeBytes}
 use Rattle.way_back.specs.declared.counts.Counts.{Counts}
 use Rattle.way_back.specs.declared.counts.Section.{Section}
 use Rattle.way_back.specs.declared.counts.Section.the-variants.{Nodes, Links, Names, Text}
@@ -58,7 +59,7 @@ kindNumber Variable = variableKind
 
 -- what a section gets of a node, and of an item of a node's list: a link to a target with name k, and a name of the text w that starts at a place
 abbrev pub nodeEntry : Section → ℕ → ℕ → ℕ → List ℕ
-nodeEntry Nodes kind a b = kind ∷ 0 ∷ twoBytes a ++ twoBytes b
+nodeEntry Nodes kind a b = nodeBytes kind a b
 nodeEntry Links kind a b = []
 nodeEntry Names kind a b = []
 nodeEntry Text kind a b = []

@@ -12,7 +12,6 @@ use counts::own_counts;
 use counts::plus;
 use counts::short_counts;
 use leaves::buffer::Made;
-use leaves::buffer::put_byte;
 use leaves::buffer::put_part;
 use leaves::buffer::put_two;
 use leaves::limits::MAX_LEVELS;
@@ -75,10 +74,7 @@ fn put_node(section: Section, kind: u8, a: usize, b: usize, out: &mut [u8], to: 
 {
     match section {
         Section::Nodes => {
-            put_byte(out, to, kind);
-            put_byte(out, to + 1, 0);
-            put_two(out, to + 2, a);
-            put_two(out, to + 4, b);
+            tables::put_node(out, to, kind, a, b);
             to + NODE_SIZE
         }
         Section::Links => to,
