@@ -3,7 +3,8 @@
 --     exported-child     of a child
 --     exported-name      of a name
 --     exported-sheet     of a sheet
---     exported-made      of fill, join, the writer and the way back
+--     made-fits          that it fits, of fill, join, the writer and the way back
+--     records-fit        the same of the writer of records
 -- Assumes nothing.
 use Prim.Native.Nat.{ℕ, _≤_, _<_}
 use mathlib.Core.Path.{_≡_, refl}
@@ -12,6 +13,7 @@ use native.Mathlib.Omega.{arith}
 use lib.Dec.{ltb}
 use lib.ListN.{length, getD}
 use borrow.Author.Tests.{ltb-true}
+use Rattle.meaning.specs.Limits.{maxNodes}
 use Rattle.meaning.specs.Refusals.{sheetBroken, noSuchPart}
 use Rattle.meaning.specs.Shape.{Shape}
 use Rattle.meaning.specs.Within.{Within}
@@ -26,9 +28,8 @@ use Rattle.meaning.proofs.Laws.{encode-reading}
 use Rattle.meaning.proofs.Faults.{refusal-small}
 use Rattle.meaning.proofs.SheetBytes.{sheet-read, sheet-refusal}
 use Rattle.meaning.proofs.Bounds.{farthest, Small}
+use Rattle.meaning.proofs.TableAnswers.{write-small}
 use Rattle.meaning.proofs.Parts.{children-few, names-few, child-inside, packed-number, name-inside}
-use Rattle.leaves.specs.declared.buffer.Made.{Made}
-use Rattle.leaves.specs.declared.buffer.Made.the-variants as made
 use Rattle.leaves.specs.Said.{madeSaid}
 use Rattle.reader.specs.declared.Judgement.{Judgement}
 use Rattle.reader.specs.declared.Judgement.the-variants.{Accepted, Refused}
@@ -41,8 +42,10 @@ use Rattle.parts.specs.Said.{toldChild, childSaid, nameSaid}
 use Rattle.sheets.specs.declared.Checked.{Checked}
 use Rattle.sheets.specs.declared.Checked.the-variants as sheet
 use Rattle.sheets.specs.Said.{checked}
+use Rattle.editor.specs.declared.Node.{Node}
+use Rattle.editor.specs.Records.{sameTable, recordsAnswer, recordsOutcome}
 use Rattle.board.specs.declared.Answer.{Answer}
-use Rattle.board.specs.Answers.{answered, refused, readAnswer, childAnswered, childAnswer, nameAnswer, sheetAnswer, madeAnswer}
+use Rattle.board.specs.Answers.{answered, refused, readAnswer, childAnswered, childAnswer, nameAnswer, sheetAnswer, MadeFits}
 
 -- an answer that fits, and is the one to be given
 pub record Given (a b : Answer) : Type 0 where
@@ -78,14 +81,23 @@ abbrev sheetPut : Checked → Answer
 sheetPut (sheet.Sound entries bytes) = answered 0 bytes entries
 sheetPut (sheet.Broken place) = refused sheetBroken place
 
-abbrev madePut : Made → Answer
-madePut (made.Written length) = answered 0 length 0
-madePut (made.Refused number place) = refused number place
+-- What a call that writes says, small as it is, fits.
+pub made-fits : (a : Meant.Answer) → Small a → MadeFits (madeSaid a)
+made-fits (Meant.answered w) h = omega arith
+made-fits (Meant.refused number place) h = (omega arith, omega arith)
 
--- What a call that writes says, small as it is, is what its exported call says.
-pub exported-made : (a : Meant.Answer) → Small a → Given (madePut (madeSaid a)) (madeAnswer a)
-exported-made (Meant.answered w) h = given _ (omega arith) (omega arith) (omega arith) (omega arith)
-exported-made (Meant.refused number place) h = given-refusal number place (h .0) (h .1)
+-- What the writer of records answers is small: it refuses at once, or answers as the writer of tables does.
+records-small : (nodes : List Node) (rest : List ℕ) (room : ℕ) → Small (recordsAnswer nodes rest room)
+unfolding recordsAnswer
+records-small nodes rest room =
+    rule Small (ltb (length nodes) 1) _ _ (λ _. (omega arith, omega arith)) λ _.
+    rule Small (ltb maxNodes (length nodes)) _ _ (λ _. (omega arith, omega arith)) λ _.
+    write-small (sameTable nodes rest) room
+
+-- So what it says fits.
+pub records-fit : (nodes : List Node) (rest buffer : List ℕ) → MadeFits (recordsOutcome nodes rest buffer .0)
+unfolding recordsOutcome
+records-fit nodes rest buffer = made-fits (recordsAnswer nodes rest (length buffer)) (records-small nodes rest (length buffer))
 
 module _ (s : List ℕ) (bytes : (i : ℕ) → getD s i 0 < 256) where
   -- An input is a shape within the limits, or is refused with small numbers.

@@ -1,6 +1,7 @@
 -- What the board's calls say, in four numbers: number 0 is an answer, and a field that a call does not use is 0; otherwise number and place are
 -- the paper's, and length and extra are 0. To be believed.
-use Prim.Native.Nat.{ℕ}
+use Prim.Native.Nat.{ℕ, _<_}
+use mathlib.Core.List.{List}
 use lib.Dec.{ltb}
 use lib.ListN.{length}
 use Rattle.meaning.specs.Rules.{_⇒_∣_}
@@ -11,6 +12,11 @@ use Rattle.meaning.specs.Reading.{Reading, got, bad}
 use Rattle.meaning.specs.Sheet.{Sheet, encodings}
 use Rattle.meaning.specs.Answers as Meant
 use Rattle.meaning.specs.Parts.{Child, part, packedPrim, children, childOf, names, nameText, namePlace}
+use Rattle.leaves.specs.declared.buffer.Made.{Made}
+use Rattle.leaves.specs.declared.buffer.Made.the-variants.{Written, Refused}
+use Rattle.leaves.specs.Said.{madeSaid}
+use Rattle.editor.specs.declared.Node.{Node}
+use Rattle.editor.specs.Records.{recordsOutcome}
 use Rattle.board.specs.declared.Answer.{Answer}
 
 abbrev pub answered : ℕ → ℕ → ℕ → Answer
@@ -48,7 +54,20 @@ abbrev pub sheetAnswer : Reading Sheet → Answer
 sheetAnswer (got σ left) = answered 0 (length (encodings σ)) (length σ)
 sheetAnswer (bad number place) = refused number place
 
--- `shiulbart_fill`, `shiulbart_join`, `shiulbart_write` and `shiulbart_table`: how many bytes were written, or the refusal
+-- what a call that writes says, in four numbers: how many bytes were written, or the refusal
+abbrev pub madePut : Made → Answer
+madePut (Written length) = answered 0 length 0
+madePut (Refused number place) = refused number place
+
+-- its numbers fit 32 bits
+abbrev pub MadeFits : Made → Type 0
+MadeFits (Written length) = length < 4294967296
+MadeFits (Refused number place) = (number < 4294967296) × (place < 4294967296)
+
+-- `shiulbart_fill`, `shiulbart_join`, `shiulbart_write` and `shiulbart_table`
 abbrev pub madeAnswer : Meant.Answer → Answer
-madeAnswer (Meant.answered w) = answered 0 (length w) 0
-madeAnswer (Meant.refused number place) = refused number place
+madeAnswer a = madePut (madeSaid a)
+
+-- `shiulbart_write_records`: what it says, and what the lent buffer holds afterwards
+abbrev pub recordsAnswer : List Node → List ℕ → List ℕ → Answer × List ℕ
+recordsAnswer nodes rest buffer = (madePut (recordsOutcome nodes rest buffer .0), recordsOutcome nodes rest buffer .1)

@@ -1,4 +1,5 @@
 // Every call that a host makes, on byte slices and plain numbers. Each trusts nobody to have looked first. include/shiulbart.h is this page for C.
+use editor::Node;
 use leaves::buffer::Made;
 use leaves::refusals::SHEET_BROKEN;
 use parts::FoundChild;
@@ -12,7 +13,7 @@ ghost use Rattle.meaning.specs.Refusals.{sheetBroken};
 ghost use Rattle.meaning.specs.Reading.{reading};
 ghost use Rattle.meaning.specs.SheetReading.{readSheet};
 ghost use Rattle.meaning.specs.Answers.{fillAnswer, joinAnswer, writeAnswer, tableAnswer, bufferAfter};
-ghost use Rattle.board.specs.Answers.{answered, refused, readAnswer, childAnswer, nameAnswer, sheetAnswer, madeAnswer};
+ghost use Rattle.board.specs.Answers.{answered, refused, madePut, MadeFits, readAnswer, childAnswer, nameAnswer, sheetAnswer, madeAnswer, recordsAnswer};
 
 // What every call says. Number 0 is an answer; otherwise number and place are the paper's. A field that a call does not use is 0.
 #[repr(C)]
@@ -46,6 +47,17 @@ fn refusal_of(number: usize, place: usize) -> Answer
         place: place as u32,
         length: 0,
         extra: 0,
+    }
+}
+
+// What a call that writes into a lent buffer said, in 32 bits a number.
+fn made_answer(made: Made) -> Answer
+    requires { ⌜ MadeFits made ⌝ }
+    ensures { λ r. ⌜ r ≡ madePut made ⌝ }
+{
+    match made {
+        Made::Refused { number, place } => refusal_of(number, place),
+        Made::Written { length } => answer_of(0, length, 0),
     }
 }
 
@@ -100,10 +112,7 @@ pub extern "C" fn shiulbart_fill(template: &[u8], sheet: &[u8], out: &mut [u8]) 
     ensures is { λ r. ⌜ r ≡ madeAnswer (fillAnswer (now (template .entry)) (now (sheet .entry)) (length (now (out .entry)))) ⌝ }
     ensures buffer { λ _. ⌜ now (out .exit) ≡ bufferAfter (now (out .entry)) (fillAnswer (now (template .entry)) (now (sheet .entry)) (length (now (out .entry)))) ⌝ }
 {
-    match fills::fill(template, sheet, out) {
-        Made::Refused { number, place } => refusal_of(number, place),
-        Made::Written { length } => answer_of(0, length, 0),
-    }
+    made_answer(fills::fill(template, sheet, out))
 }
 
 // Joins two sheets, into the front of a lent buffer: how many bytes were written as length, or the refusal.
@@ -112,10 +121,7 @@ pub extern "C" fn shiulbart_join(first: &[u8], second: &[u8], out: &mut [u8]) ->
     ensures is { λ r. ⌜ r ≡ madeAnswer (joinAnswer (now (first .entry)) (now (second .entry)) (length (now (out .entry)))) ⌝ }
     ensures buffer { λ _. ⌜ now (out .exit) ≡ bufferAfter (now (out .entry)) (joinAnswer (now (first .entry)) (now (second .entry)) (length (now (out .entry)))) ⌝ }
 {
-    match joins::join(first, second, out) {
-        Made::Refused { number, place } => refusal_of(number, place),
-        Made::Written { length } => answer_of(0, length, 0),
-    }
+    made_answer(joins::join(first, second, out))
 }
 
 // Writes the encoding of what a node table means, into the front of a lent buffer: how many bytes were written as length, or the refusal.
@@ -124,10 +130,15 @@ pub extern "C" fn shiulbart_write(table: &[u8], out: &mut [u8]) -> Answer
     ensures is { λ r. ⌜ r ≡ madeAnswer (writeAnswer (now (table .entry)) (length (now (out .entry)))) ⌝ }
     ensures buffer { λ _. ⌜ now (out .exit) ≡ bufferAfter (now (out .entry)) (writeAnswer (now (table .entry)) (length (now (out .entry)))) ⌝ }
 {
-    match writer::write(table, out) {
-        Made::Refused { number, place } => refusal_of(number, place),
-        Made::Written { length } => answer_of(0, length, 0),
-    }
+    made_answer(writer::write(table, out))
+}
+
+// The same of a table whose nodes are lent as records, and the rest of it as bytes.
+#[no_mangle]
+pub extern "C" fn shiulbart_write_records(nodes: &[Node], rest: &[u8], out: &mut [u8]) -> Answer
+    ensures { λ r. ⌜ (r, now (out .exit)) ≡ recordsAnswer (now (nodes .entry)) (now (rest .entry)) (now (out .entry)) ⌝ }
+{
+    made_answer(editor::write_records(nodes, rest, out))
 }
 
 // Makes the node table of an encoding, in the front of a lent buffer: how many bytes were written as length, or the refusal.
@@ -136,8 +147,5 @@ pub extern "C" fn shiulbart_table(bytes: &[u8], out: &mut [u8]) -> Answer
     ensures is { λ r. ⌜ r ≡ madeAnswer (tableAnswer (now (bytes .entry)) (length (now (out .entry)))) ⌝ }
     ensures buffer { λ _. ⌜ now (out .exit) ≡ bufferAfter (now (out .entry)) (tableAnswer (now (bytes .entry)) (length (now (out .entry)))) ⌝ }
 {
-    match way_back::to_table(bytes, out) {
-        Made::Refused { number, place } => refusal_of(number, place),
-        Made::Written { length } => answer_of(0, length, 0),
-    }
+    made_answer(way_back::to_table(bytes, out))
 }

@@ -56,12 +56,12 @@ sheet-tells (got s v) k n p = (λ h. absurd (omega arith), λ h. (k n p h, cc, c
 sheet-tells (bad m q) k n p = (λ h. ap₂ bad (h .1) (h .2), λ h. (k n p h, cc, cc))
 
 -- a list without 0
-abbrev Positive : List ℕ → Type 0
+abbrev pub Positive : List ℕ → Type 0
 Positive [] = Unit {0}
 Positive (m ∷ ms) = (0 < m) × Positive ms
 
 -- One of a list without 0 is not 0.
-positive : {n : ℕ} {ms : List ℕ} → Positive ms → OneOf n ms → 0 < n
+pub positive : {n : ℕ} {ms : List ℕ} → Positive ms → OneOf n ms → 0 < n
 positive a (here e) = rw e (a .0)
 positive a (further h) = positive (a .1) h
 
@@ -93,7 +93,7 @@ made-keeps before (Meant.answered w) k = (λ l. absurd (omega arith), (k w refl,
 made-keeps before (Meant.refused n p) k = rw (buffer-kept before n p) (λ _. refl, (zero-le, refl, refl))
 
 -- Both of a call that writes.
-made-tells : {r : Answer} (a : Meant.Answer) (before : List ℕ) {after : List ℕ} {R : ℕ → ℕ → Type 0} → (r ≡ madeAnswer a) × (after ≡ Meant.bufferAfter before a) → ((w : List ℕ) → a ≡ Meant.answered w → length w ≤ length before) → ((n p : ℕ) → (a ≡ Meant.refused n p) ↔ R n p) → ((n p : ℕ) → R n p → 0 < n) → Tells r R × Keeps r before after
+pub made-tells : {r : Answer} (a : Meant.Answer) (before : List ℕ) {after : List ℕ} {R : ℕ → ℕ → Type 0} → (r ≡ madeAnswer a) × (after ≡ Meant.bufferAfter before a) → ((w : List ℕ) → a ≡ Meant.answered w → length w ≤ length before) → ((n p : ℕ) → (a ≡ Meant.refused n p) ↔ R n p) → ((n p : ℕ) → R n p → 0 < n) → Tells r R × Keeps r before after
 made-tells a before h f o k = rw (h .0, h .1) (tells _ a (made-codes a) o k, made-keeps before a f)
 
 module _ (κs : Lfts 1) (r : Answer) where

@@ -5,6 +5,7 @@ pub mod Refusing
 pub mod Exported
 pub mod Once
 pub mod Front
+pub mod Records
 pub mod Exact
 pub mod Stages
 pub mod Card

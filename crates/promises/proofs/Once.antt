@@ -29,7 +29,7 @@ agree : {A : Type 0} {x y z : A} → x ≡ z → y ≡ z → x ≡ y
 agree p q = p ∙ sym q
 
 -- So are an answer and a buffer.
-agree-both : {A B : Type 0} {x y z : A} {u v w : B} → (x ≡ z) × (u ≡ w) → (y ≡ z) × (v ≡ w) → (x ≡ y) × (u ≡ v)
+pub agree-both : {A B : Type 0} {x y z : A} {u v w : B} → (x ≡ z) × (u ≡ w) → (y ≡ z) × (v ≡ w) → (x ≡ y) × (u ≡ v)
 agree-both p q = (agree (p .0) (q .0), agree (p .1) (q .1))
 
 pub read-once : {bytes : List ℕ} {r r' : Judgement} → Read bytes r → Read bytes r' → r ≡ r'

@@ -27,7 +27,7 @@ use Rattle.meaning.proofs.Answers.{made-fits, room-lacks}
 use Rattle.promises.specs.Order.{PartRefuses, encoding-bad, no-part, Fits, ShapeRefuses, deep, long, MadeRefuses, unfit, no-room, FillRefuses, template-bad, sheet-bad, filled-bad, JoinedRefuses, entries-over, entry-bad, bytes-over, sheet-no-room, JoinRefuses, first-bad, second-bad, joined-bad, WriteRefuses, table-bad, root-bad, TableRefuses, bytes-bad, table-no-room}
 
 -- where it is a refusal, an answer has a number and a place that R holds of
-abbrev Ordered : (ℕ → ℕ → Type 0) → Answer → Type 0
+abbrev pub Ordered : (ℕ → ℕ → Type 0) → Answer → Type 0
 Ordered R (answered w) = Unit {0}
 Ordered R (refused n p) = R n p
 
@@ -106,7 +106,7 @@ joined-clause {σ} {room} (bytes-over l f h) = rw (le-ltb _ _ l, past-all σ _ f
 joined-clause {σ} {room} (sheet-no-room l f m h) = rw (le-ltb _ _ l, past-all σ _ f, le-ltb _ _ m) (room-lacks room _ h)
 
 -- An answer is a refusal exactly by R, where R holds of its refusals and gives each of them.
-exactly : {n p : ℕ} (R : ℕ → ℕ → Type 0) {a : Answer} → Ordered R a → (R n p → a ≡ refused n p) → (a ≡ refused n p) ↔ R n p
+pub exactly : {n p : ℕ} (R : ℕ → ℕ → Type 0) {a : Answer} → Ordered R a → (R n p → a ≡ refused n p) → (a ≡ refused n p) ↔ R n p
 exactly R o k = (λ e. rw e at o, k)
 
 -- A sheet's refusal has the number that it was handed.

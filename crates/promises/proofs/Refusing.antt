@@ -98,7 +98,7 @@ made-order (answered w) n p = (λ h. cc, λ h. cc)
 made-order (refused m q) n p = (λ h. cc, λ h. cc)
 
 -- So it refuses exactly by the clauses R of its answer.
-made-refuses : {a : Answer} {r : Made} {R : ℕ → ℕ → Type 0} → r ≡ madeSaid a → ((n p : ℕ) → (a ≡ refused n p) ↔ R n p) → (n p : ℕ) → (r ≡ Refused n p) ↔ R n p
+pub made-refuses : {a : Answer} {r : Made} {R : ℕ → ℕ → Type 0} → r ≡ madeSaid a → ((n p : ℕ) → (a ≡ refused n p) ↔ R n p) → (n p : ℕ) → (r ≡ Refused n p) ↔ R n p
 made-refuses {a} s o n p = rw s (Iff·trans (made-order a n p) (o n p))
 
 -- `fill` refuses exactly by its clauses.
@@ -179,12 +179,12 @@ table-numbers {bytes} (bytes-bad h) = eight bytes h
 table-numbers (table-no-room h l) = search (here, further) depth 13
 
 -- A refusal leaves the lent buffer as it was.
-made-kept : {n p : ℕ} {before after : List ℕ} (a : Answer) → Says a before (Refused n p) after → after ≡ before
+pub made-kept : {n p : ℕ} {before after : List ℕ} (a : Answer) → Says a before (Refused n p) after → after ≡ before
 made-kept (answered w) s = cc
 made-kept {n} {p} {before} (refused m q) s = s .1 ∙ buffer-kept before m q
 
 -- An answer that fits leaves all but its own bytes as they were.
-made-front : {n : ℕ} {after : List ℕ} (before : List ℕ) (a : Answer) → ((w : List ℕ) → a ≡ answered w → length w ≤ length before) → Says a before (Written n) after → FrontOnly n before after
+pub made-front : {n : ℕ} {after : List ℕ} (before : List ℕ) (a : Answer) → ((w : List ℕ) → a ≡ answered w → length w ≤ length before) → Says a before (Written n) after → FrontOnly n before after
 made-front {n} before (answered w) k s = let e : n ≡ length w = cc in rw (e, s .1) (k w refl, buffer-length before (answered w) k, buffer-rest before w)
 made-front before (refused m q) k s = let z : _≡_ {A = ℕ} 0 1 = cc in absurd (omega arith)
 

@@ -1,8 +1,11 @@
 -- 01-scope.md, "What every call has to commit to": "Try these useless programs against it." A run is what a call's contract allows (Calls.antt), so each
 -- law says, by one example, that no contract allows what the useless program does.
 --     refusing-read, refusing-child, refusing-name, refusing-check,
---     refusing-fill, refusing-join, refusing-write, refusing-table     it refuses everything
---     fixed-read, fixed-fill, fixed-join, fixed-write, fixed-table     it gives one fixed shape or sheet
+--     refusing-fill, refusing-join, refusing-write, refusing-table,
+--     refusing-records     it refuses everything
+--     fixed-read, fixed-fill, fixed-join, fixed-write, fixed-table,
+--     fixed-records        it gives one fixed shape or sheet
+--     wrapped-records      it takes 65,537 records for one
 --     copying-fill       a fill that copies its template
 --     copying-second     it fills everything in the first stage and copies in the second
 --     copying-join       it joins by copying the first sheet
@@ -30,6 +33,8 @@ use Rattle.meaning.specs.TableReading.{sectionAt, nodesIn, namesIn, goodNode, c
 use Rattle.meaning.specs.Answers.{Answer, answered, onto, inRoom, made, allMade, madeSheet, fillAnswer, joinAnswer, writeAnswer, tableAnswer}
 use Rattle.meaning.proofs.Answers.{room-answered, room-enough, room-refused}
 use Rattle.leaves.specs.declared.buffer.Made.the-variants.{Written, Refused}
+use Rattle.editor.specs.declared.Node.{Node}
+use Rattle.editor.specs.Records.{recordsAnswer}
 use Rattle.reader.specs.declared.Judgement.the-variants as read
 use Rattle.reader.specs.Said.{said}
 use Rattle.parts.specs.declared.FoundChild.the-variants as child
@@ -39,7 +44,8 @@ use Rattle.sheets.specs.declared.Checked.the-variants.{Sound, Broken}
 use Rattle.sheets.specs.Said.{checked}
 use Rattle.promises.proofs.Calls.{Read, ChildOf, NameOf, Check, Fill, Join, Write, Tabled}
 use Rattle.promises.proofs.Says.{Says, read-says, child-says, name-says, check-says, fill-says, join-says, write-says, table-says}
-use Rattle.promises.proofs.Front.{refusal-is, fill-front-is, join-front-is, write-front-is, table-front-is}
+use Rattle.promises.proofs.Front.{refusal-is, front-is, fill-front-is, join-front-is, write-front-is, table-front-is}
+use Rattle.promises.proofs.Records.{WriteRecords, records-says, records-many}
 use Rattle.promises.proofs.Stages.{emptySheet}
 
 -- The examples' bytes: Int and Float; the Record of M4, a Int, b Array of Bool
@@ -76,6 +82,13 @@ intTable = 0x01 ∷ 0x00 ∷ 0x00 ∷ 0x00 ∷ 0x00 ∷ 0x00 ∷ 0x00 ∷ 0x00 �
 abbrev pub floatTable : List ℕ
 floatTable = 0x01 ∷ 0x00 ∷ 0x01 ∷ 0x00 ∷ 0x00 ∷ 0x00 ∷ 0x00 ∷ 0x00 ∷ 0x00 ∷ 0x00 ∷ 0x00 ∷ 0x00 ∷ 0x00 ∷ 0x00 ∷ []
 
+-- the same two, as one record each and a rest of no links, names and text
+abbrev pub ofKind : ℕ → List Node
+ofKind kind = record { kind = kind; a = 0; b = 0 } ∷ []
+
+abbrev pub noRest : List ℕ
+noRest = 0 ∷ 0 ∷ 0 ∷ 0 ∷ 0 ∷ 0 ∷ []
+
 -- a call that writes makes w, whatever room it is lent
 abbrev Makes : (ℕ → Answer) → List ℕ → Type 0
 Makes answer w = (room : ℕ) → answer room ≡ inRoom room w
@@ -96,11 +109,13 @@ record Examples : Type 0 where
   empty-made : Makes (joinAnswer emptySheet emptySheet) emptySheet
   int-made : Makes (writeAnswer intTable) anInt
   float-made : Makes (writeAnswer floatTable) aFloat
+  int-record-made : Makes (recordsAnswer (ofKind 0) noRest) anInt
+  float-record-made : Makes (recordsAnswer (ofKind 1) noRest) aFloat
   int-table-made : Makes (tableAnswer anInt) intTable
   float-table-made : Makes (tableAnswer aFloat) floatTable
 
 computed : Examples
-unfolding leb128 charSize charsSize wellFormed depth count code primOf classOf asPrim arrayBytes mapBytes blankBytes encode next readCount readText hasShort finish readFields readPayload readLong readClass readShape atEnd reading fieldShapes children fieldNames names fieldItems items nameBytes shapeBytes listBytes listStart childOf find put over each plug orBlank entriesBytes encodings sheetBytes sum readEntries orEntry readEncodings readSecond readSheet nodesBytes linksBytes namesBytes tableBytes nodeShape shapeIn namesFrom joined withNode grow sectionAt nodesIn namesIn goodNode checkNodes checkNames ended readTable onto made allMade madeSheet fillAnswer joinAnswer writeAnswer tableAnswer
+unfolding leb128 charSize charsSize wellFormed depth count code primOf classOf asPrim arrayBytes mapBytes blankBytes encode next readCount readText hasShort finish readFields readPayload readLong readClass readShape atEnd reading fieldShapes children fieldNames names fieldItems items nameBytes shapeBytes listBytes listStart childOf find put over each plug orBlank entriesBytes encodings sheetBytes sum readEntries orEntry readEncodings readSecond readSheet nodesBytes linksBytes namesBytes tableBytes nodeShape shapeIn namesFrom joined withNode grow sectionAt nodesIn namesIn goodNode checkNodes checkNames ended readTable onto made allMade madeSheet fillAnswer joinAnswer writeAnswer tableAnswer recordsAnswer
 computed = record {
   int-said = refl;
   record-said = refl;
@@ -116,6 +131,8 @@ computed = record {
   empty-made = λ room. refl;
   int-made = λ room. refl;
   float-made = λ room. refl;
+  int-record-made = λ room. refl;
+  float-record-made = λ room. refl;
   int-table-made = λ room. refl;
   float-table-made = λ room. refl;
 }
@@ -153,7 +170,7 @@ pub refusing-check : {p : ℕ} → Check zeroAsInt (Broken p) → ⊥
 refusing-check c = let e = check-says c ∙ computed .sheet-said in let z : _≡_ {A = ℕ} 0 1 = cc in omega arith
 
 module _ {before after : List ℕ} {n p : ℕ} where
-  -- nor, given the room, `fill` M13, `join` M14, `write` a table of Int and `to_table` an Int.
+  -- nor, given the room, `fill` M13, `join` M14, `write` a table of Int, `write_records` its record and `to_table` an Int.
   pub refusing-fill : Fill blankArray zeroAsInt before (Refused n p) after → 1 ≤ length before → ⊥
   refusing-fill c = not-refused _ (computed .array-made) before (fill-says c)
 
@@ -162,6 +179,9 @@ module _ {before after : List ℕ} {n p : ℕ} where
 
   pub refusing-write : Write intTable before (Refused n p) after → 1 ≤ length before → ⊥
   refusing-write c = not-refused _ (computed .int-made) before (write-says c)
+
+  pub refusing-records : WriteRecords (ofKind 0) noRest before (Refused n p) after → 1 ≤ length before → ⊥
+  refusing-records c = not-refused _ (computed .int-record-made) before (records-says c)
 
   pub refusing-table : Tabled anInt before (Refused n p) after → 14 ≤ length before → ⊥
   refusing-table c = not-refused _ (computed .int-table-made) before (table-says c)
@@ -183,9 +203,14 @@ module _ {b a b′ a′ : List ℕ} {n n′ : ℕ} where
   pub fixed-join : Join zeroAsOne oneAsInt b (Written n) a → Join emptySheet emptySheet b′ (Written n′) a′ → take n a ≡ take n′ a′ → ⊥
   fixed-join c c′ h = let z : _≡_ {A = ℕ} 2 0 = byte 0 (made-is _ (computed .sheet-made) b (join-front-is c)) (made-is _ (computed .empty-made) b′ (join-front-is c′)) h in omega arith
 
-  -- `write` of two tables, and `to_table` of two encodings.
+  -- `write` of two tables, `write_records` of two records, and `to_table` of two encodings.
   pub fixed-write : Write intTable b (Written n) a → Write floatTable b′ (Written n′) a′ → take n a ≡ take n′ a′ → ⊥
   fixed-write c c′ h = let z : _≡_ {A = ℕ} 0x20 0x21 = byte 0 (made-is _ (computed .int-made) b (write-front-is c)) (made-is _ (computed .float-made) b′ (write-front-is c′)) h in omega arith
+
+  pub fixed-records : WriteRecords (ofKind 0) noRest b (Written n) a → WriteRecords (ofKind 1) noRest b′ (Written n′) a′ → take n a ≡ take n′ a′ → ⊥
+  fixed-records c c′ h =
+      let z : _≡_ {A = ℕ} 0x20 0x21 = byte 0 (made-is _ (computed .int-record-made) b (front-is _ b (records-says c) .0)) (made-is _ (computed .float-record-made) b′ (front-is _ b′ (records-says c′) .0)) h in
+      omega arith
 
   pub fixed-table : Tabled anInt b (Written n) a → Tabled aFloat b′ (Written n′) a′ → take n a ≡ take n′ a′ → ⊥
   fixed-table c c′ h = let z : _≡_ {A = ℕ} 0 1 = byte 2 (made-is _ (computed .int-table-made) b (table-front-is c)) (made-is _ (computed .float-table-made) b′ (table-front-is c′)) h in omega arith
@@ -225,3 +250,7 @@ invented-children c = let e = child-says c ∙ computed .no-child-said in cc
 
 pub invented-names : {n : ℕ} → NameOf aRecord 2 (name.Refused noSuchPart n) → n ≡ 2
 invented-names c = let e = name-says c ∙ computed .no-name-said in cc
+
+-- Takes 65,537 records for one, their number cut to two bytes: so many are refused, however the rest may fit one.
+pub wrapped-records : {nodes : List Node} {rest before after : List ℕ} {n : ℕ} → length nodes ≡ 65537 → WriteRecords nodes rest before (Written n) after → ⊥
+wrapped-records e c = let r = records-many c (omega arith) .0 in let z : _≡_ {A = ℕ} 0 1 = cc in omega arith

@@ -5,8 +5,8 @@ use mathlib.Core.Path.{_≡_}
 use mathlib.Core.List.{List, [], _∷_, _++_}
 use mathlib.Core.Logic.{_↔_}
 use lib.ListN.{length, drop}
-use Rattle.meaning.specs.Limits.{maxBytes, maxLevels, maxEntries, maxEncodings}
-use Rattle.meaning.specs.Refusals.{cutShort, notAssigned, sizeWrong, unfinished, notUtf8, longForm, tooDeep, inputTooLong, bufferShort, sheetBroken, secondBroken, madeTooDeep, madeTooLong, joinedTooLarge, noSuchPart}
+use Rattle.meaning.specs.Limits.{maxBytes, maxLevels, maxEntries, maxEncodings, maxNodes}
+use Rattle.meaning.specs.Refusals.{cutShort, notAssigned, sizeWrong, unfinished, notUtf8, longForm, tooDeep, inputTooLong, sectionBroken, bufferShort, sheetBroken, secondBroken, madeTooDeep, madeTooLong, joinedTooLarge, noSuchPart}
 use Rattle.meaning.specs.Shape.{Shape, depth}
 use Rattle.meaning.specs.Encode.{encode}
 use Rattle.meaning.specs.Reading.{got, bad, reading}
@@ -15,6 +15,8 @@ use Rattle.meaning.specs.Sheet.{Sheet, fill, join, encodings, sheetBytes}
 use Rattle.meaning.specs.SheetReading.{readSheet}
 use Rattle.meaning.specs.Table.{Table, tableBytes, tableShape, tableOf}
 use Rattle.meaning.specs.TableReading.{readTable}
+use Rattle.editor.specs.declared.Node.{Node}
+use Rattle.editor.specs.Records.{sameTable}
 use Rattle.board.specs.declared.Answer.{Answer}
 
 -- 1 to 8
@@ -81,6 +83,14 @@ pub data WriteRefuses (table : List ℕ) (room : ℕ) : ℕ → ℕ → Type 0 w
   table-bad : {n p : ℕ} → readTable table ≡ bad n p → WriteRefuses table room n p
   -- "then 15, 16, 12 for the root"
   root-bad : {T : Table} {v : List ℕ} {n p : ℕ} → readTable table ≡ got T v → MadeRefuses (tableShape T) room n p → WriteRefuses table room n p
+
+-- `write_records`, of the editor's nodes and the rest of the table
+pub data RecordsRefuses (nodes : List Node) (rest : List ℕ) (room : ℕ) : ℕ → ℕ → Type 0 where
+  -- "no records, or more than 6,144: 9 at 0"
+  no-records : length nodes < 1 → RecordsRefuses nodes rest room sectionBroken 0
+  many-records : maxNodes < length nodes → RecordsRefuses nodes rest room sectionBroken 0
+  -- "the answer and places are those of the same table in bytes"
+  same-bad : {n p : ℕ} → 1 ≤ length nodes → length nodes ≤ maxNodes → WriteRefuses (sameTable nodes rest) room n p → RecordsRefuses nodes rest room n p
 
 -- `to_table`
 pub data TableRefuses (bytes : List ℕ) (room : ℕ) : ℕ → ℕ → Type 0 where

@@ -1,48 +1,22 @@
 -- `board::shiulbart_fill` meets its contract: what is said of a fill fits, and is what the call says; the buffer is as the call below left it.
 -- Assumes nothing.
 use borrow.Author.Needs.{needs}
-use mathlib.Core.Path.{_∙_}
+use mathlib.Core.Path.{_∙_, ap}
 use lib.ListN.{length}
 use Rattle.meaning.specs.Answers.{fillAnswer}
 use Rattle.meaning.proofs.Bounds.{fill-small}
-use Rattle.board.proofs.Small.{exported-made}
+use Rattle.board.specs.Answers.{madePut}
+use Rattle.board.proofs.Small.{made-fits}
 use Rattle.board.proofs.shiulbart_fill.Statement.{statement}
 use Rattle.board.proofs.shiulbart_fill.Tie as tie
 
-refusal-of-requires : tie.Need-refusal-of-requires
-refusal-of-requires c κs =
-    let m = c .before .before .before .before .before in let k = m .before .before .before .before .before in let a = k .args in
-    let e = rw (← m .fill .ensures .0, c .before .number .given .1) at (exported-made (fillAnswer (a .template .now) (a .sheet .now) (length (a .out .now))) (fill-small (a .template .now) (a .sheet .now) (length (a .out .now)))) in
-    search needs
-
-answer-of-requires : tie.Need-answer-of-requires
-answer-of-requires c κs =
-    let m = c .before .before .before .before .before in let k = m .before .before .before .before .before in let a = k .args in
-    let e = rw (← m .fill .ensures .0, c .before .length .given .1) at (exported-made (fillAnswer (a .template .now) (a .sheet .now) (length (a .out .now))) (fill-small (a .template .now) (a .sheet .now) (length (a .out .now)))) in
-    search needs
+made-answer-requires : tie.Need-made-answer-requires
+made-answer-requires c κs =
+    let m = c .before .before in let a = m .before .before .before .before .before .args in
+    rw (m .fill .ensures .0) (made-fits (fillAnswer (a .template .now) (a .sheet .now) (length (a .out .now))) (fill-small (a .template .now) (a .sheet .now) (length (a .out .now))))
 
 returns : tie.Need-returns
-returns c =
-    let m = c .before .before .before .before .before .before in let k = m .before .before .before .before .before in let a = k .args in
-    let e = rw (← m .fill .ensures .0, c .before .before .number .given .1) at (exported-made (fillAnswer (a .template .now) (a .sheet .now) (length (a .out .now))) (fill-small (a .template .now) (a .sheet .now) (length (a .out .now)))) in
-    (c .refusal-of .ensures ∙ e .is, m .fill .ensures .1)
-
-returns-2 : tie.Need-returns-2
-returns-2 c =
-    let m = c .before .before .before .before .before .before in let k = m .before .before .before .before .before in let a = k .args in
-    let e = rw (← m .fill .ensures .0, c .before .before .length .given .1) at (exported-made (fillAnswer (a .template .now) (a .sheet .now) (length (a .out .now))) (fill-small (a .template .now) (a .sheet .now) (length (a .out .now)))) in
-    (c .answer-of .ensures ∙ e .is, m .fill .ensures .1)
+returns c = let m = c .before .before .before in (c .made-answer .ensures ∙ ap madePut (m .fill .ensures .0), m .fill .ensures .1)
 
 pub shiulbart-fill-spec : {M : Type 1} → statement M
-shiulbart-fill-spec =
-    tie.close
-    (tie.spec
-    (λ c κs. search needs)
-    (λ c. search needs)
-    refusal-of-requires
-    (λ c. search needs)
-    answer-of-requires
-    (λ c. search needs)
-    returns
-    (λ c. search needs)
-    returns-2)
+shiulbart-fill-spec = tie.close (tie.spec (λ c κs. search needs) made-answer-requires (λ c. search needs) returns)
