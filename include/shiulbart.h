@@ -20,7 +20,8 @@
  * What the host owes every call
  *
  * - Each pointer is valid for the length beside it: so many bytes may be read there and, in a
- *   buffer lent for an answer, written.
+ *   buffer lent for an answer, written. A pointer to nodes is valid for so many of them, and aligned
+ *   as C wants it.
  * - A buffer lent for an answer overlaps nothing else that is lent to the same call.
  * - A pointer is null only if its length is 0.
  * - No other thread writes to what is lent, or reads a buffer lent for an answer, until the call
@@ -176,6 +177,27 @@ shiulbart_answer shiulbart_join(const uint8_t *first, size_t first_length, const
  */
 shiulbart_answer shiulbart_write(const uint8_t *table, size_t table_length, uint8_t *out,
     size_t out_length);
+
+/*
+ * A node as an editor has it: the kind, a and b of shiulbart_write's table. It takes 6 bytes. The one
+ * between `kind` and `a` is not looked at, whatever it is.
+ */
+typedef struct shiulbart_node {
+    uint8_t kind;
+    uint16_t a;
+    uint16_t b;
+} shiulbart_node;
+
+/*
+ * As shiulbart_write, of a table whose nodes are records. `nodes` are its `node_count` nodes, and
+ * `rest` is the rest of it in bytes, from the count of links on. Answer, refusal, place and `out` are
+ * those of shiulbart_write on the same table in bytes: the count of nodes, each node with its byte of
+ * 0, and the rest. So a place in the rest is counted from the start of that table, and the rest starts
+ * at 2 + 6 x `node_count`. No nodes, or more than 6,144, are refused with 9 at 0, however many there
+ * are: the count is taken whole, not as two bytes.
+ */
+shiulbart_answer shiulbart_write_records(const shiulbart_node *nodes, size_t node_count,
+    const uint8_t *rest, size_t rest_length, uint8_t *out, size_t out_length);
 
 /*
  * The node table of an encoded shape, in the form that shiulbart_write takes. Nothing is shared: the

@@ -1,6 +1,7 @@
 /* Calls the archive from C through include/shiulbart.h: M1 to M14 of the bench card, children and
-   names, sheets, M4's table both ways, and every byte of the buffers that fill, join, write and table
-   are lent. tests/host.sh compiles, links and runs it. Its last line is 'N passed, M failed'. */
+   names, sheets, M4's table both ways and with its nodes as records, and every byte of the buffers that
+   fill, join, write, write_records and table are lent. tests/host.sh compiles, links and runs it. Its
+   last line is 'N passed, M failed'. */
 #include "shiulbart.h"
 
 #include <stdio.h>
@@ -8,6 +9,12 @@
 
 /* the boundary's layout: four numbers of four bytes, nothing between them */
 typedef char four_numbers[sizeof(shiulbart_answer) == 16 ? 1 : -1];
+
+/* and of a node: one byte, one that is not looked at, and two numbers of two bytes */
+typedef char six_bytes[sizeof(shiulbart_node) == 6 ? 1 : -1];
+typedef char kind_first[offsetof(shiulbart_node, kind) == 0 ? 1 : -1];
+typedef char then_a[offsetof(shiulbart_node, a) == 2 ? 1 : -1];
+typedef char then_b[offsetof(shiulbart_node, b) == 4 ? 1 : -1];
 
 static unsigned passed, failed;
 
@@ -111,6 +118,15 @@ static void changed(const char *name, const uint8_t *table, size_t length, size_
     one(name, shiulbart_write, copy, length, 64, answer, NULL);
 }
 
+/* Calls write_records, and looks at every byte of the buffer. */
+static void records(const char *name, const shiulbart_node *nodes, size_t count, const uint8_t *rest,
+    size_t length, size_t room, shiulbart_answer answer, const uint8_t *made)
+{
+    buffer buffer = lend(answer, made);
+    expect(name, shiulbart_write_records(nodes, count, rest, length, buffer.out, room), answer);
+    look(name, &buffer);
+}
+
 int main(void)
 {
     static const uint8_t m1[] = {0x20};
@@ -145,6 +161,16 @@ int main(void)
         0x00, 0x01, 0x00, 0x01, 0x00, 0x02, 0x00, 0x61, 0x62};
     static const uint8_t int_table[] = {0x01, 0x00, 0x00, 0x00, 0x00, 0x00, 0x00, 0x00, 0x00, 0x00, 0x00,
         0x00, 0x00, 0x00};
+    /* the rest of M4's table: what stands behind its four nodes */
+    static const uint8_t *const m4_rest = m4_table + 26;
+    static const uint8_t int_rest[6] = {0};
+    static const shiulbart_node m4_nodes[] = {{0, 0, 0}, {2, 0, 0}, {5, 0, 1}, {7, 1, 2}};
+    static const shiulbart_node broken_nodes[] = {{0, 0, 0}, {11, 0, 0}};
+    static const shiulbart_node ints[65537] = {{0, 0, 0}};
+    shiulbart_node set[4];
+    size_t i;
+    const size_t m4_rest_length = sizeof m4_table - 26;
+    const uint32_t section = SHIULBART_SECTION_BROKEN;
     const uint64_t two_to_32 = (uint64_t)1 << 32;
     const uint32_t none = SHIULBART_NO_SUCH_PART;
     const uint32_t broken = SHIULBART_SHEET_BROKEN;
@@ -269,6 +295,36 @@ int main(void)
     expect("nothing written, null pointers", shiulbart_write(NULL, 0, NULL, 0),
         refusal(SHIULBART_SECTION_BROKEN, 0));
     expect("no table, null pointers", shiulbart_table(NULL, 0, NULL, 0), refusal(SHIULBART_CUT_SHORT, 0));
+
+    records("M4's nodes", m4_nodes, 4, m4_rest, m4_rest_length, 64, answered(0, 10, 0), m4);
+    records("M4's nodes, just enough room", m4_nodes, 4, m4_rest, m4_rest_length, 10, answered(0, 10, 0), m4);
+    records("M4's nodes, a byte short", m4_nodes, 4, m4_rest, m4_rest_length, 9,
+        refusal(SHIULBART_BUFFER_SHORT, 10), NULL);
+    records("M4's nodes, the rest cut", m4_nodes, 4, m4_rest, m4_rest_length - 1, 64, refusal(section, 50),
+        NULL);
+    records("M4's nodes, no rest", m4_nodes, 4, NULL, 0, 64, refusal(section, 26), NULL);
+    records("M4's nodes but one", m4_nodes, 3, m4_rest, m4_rest_length, 64, answered(0, 1, 0), m4 + 9);
+    records("a broken node", broken_nodes, 2, int_rest, 6, 64, refusal(SHIULBART_NODE_BROKEN, 1), NULL);
+    records("a byte left over", m4_nodes, 1, too_long, 7, 64, refusal(section, 14), NULL);
+    records("no nodes", m4_nodes, 0, m4_rest, m4_rest_length, 64, refusal(section, 0), NULL);
+    records("no nodes, a null pointer", NULL, 0, int_rest, 6, 64, refusal(section, 0), NULL);
+    records("6,144 nodes", ints, 6144, int_rest, 6, 64, answered(0, 1, 0), m1);
+    records("6,145 nodes", ints, 6145, int_rest, 6, 64, refusal(section, 0), NULL);
+    records("65,535 nodes", ints, 65535, int_rest, 6, 64, refusal(section, 0), NULL);
+    records("65,536 nodes", ints, 65536, int_rest, 6, 64, refusal(section, 0), NULL);
+    records("65,537 nodes", ints, 65537, int_rest, 6, 64, refusal(section, 0), NULL);
+    memset(set, 0xFF, sizeof set);
+    for (i = 0; i < 4; i++) {
+        set[i].kind = m4_nodes[i].kind;
+        set[i].a = m4_nodes[i].a;
+        set[i].b = m4_nodes[i].b;
+    }
+    records("M4's nodes, other bytes between", set, 4, m4_rest, m4_rest_length, 64, answered(0, 10, 0), m4);
+    expect("M4's nodes, null for no room",
+        shiulbart_write_records(m4_nodes, 4, m4_rest, m4_rest_length, NULL, 0),
+        refusal(SHIULBART_BUFFER_SHORT, 10));
+    expect("no nodes written, null pointers", shiulbart_write_records(NULL, 0, NULL, 0, NULL, 0),
+        refusal(section, 0));
 
     printf("%u passed, %u failed\n", passed, failed);
     return failed > 0;

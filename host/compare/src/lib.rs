@@ -13,6 +13,8 @@ pub mod shrink;
 pub mod stack;
 pub mod wrong;
 
+use shiulbart::NodeRecord;
+
 /// What a call says, as the four numbers of the board's answer. Number 0 is an answer; extra is the
 /// depth for `read`, 1 for a packed parent's child, and the entries for `sheet`.
 #[derive(Clone, Copy, Debug, PartialEq, Eq)]
@@ -561,6 +563,90 @@ pub mod table {
         ("gives 12 before 1 to 8", twelve_first),
         ("places 1 to 7 one byte too far", one_too_far),
         ("places 8 at the end", eight_at_the_end),
+        ("needs one byte more", needed_one_more),
+        ("refuses the length needed", room_to_spare),
+        ("writes one byte more", one_byte_more),
+        ("refuses, but writes what fits", writes_what_fits),
+    ];
+}
+
+/// A program for a call that takes nodes as records and the rest of their table, and is lent a buffer.
+pub type MakesOfRecords = fn(&[NodeRecord], &[u8], &mut [u8]) -> Outcome;
+
+/// A model with one fault for such a call, and the fault in words.
+pub type WrongOfRecords = (&'static str, MakesOfRecords);
+
+/// What the model makes of them.
+pub type WholeOfRecords = fn(&[NodeRecord], &[u8]) -> Made;
+
+/// `write_records` of each program.
+pub mod write_records {
+    use crate::cases::table;
+    use crate::wrong::records::*;
+    use crate::{fast, write, Made, Outcome, WrongOfRecords};
+    use shiulbart::NodeRecord;
+
+    pub fn proved(nodes: &[NodeRecord], rest: &[u8], out: &mut [u8]) -> Outcome {
+        match shiulbart::write_records(nodes, rest, out) {
+            Ok(length) => Outcome::answer(length, 0),
+            Err(refusal) => Outcome::refusal(refusal.number(), refusal.place()),
+        }
+    }
+
+    /// The proved `write` on the same table in bytes. If two bytes cannot count the nodes there is no
+    /// such table, and what must be said is known.
+    pub fn in_bytes(nodes: &[NodeRecord], rest: &[u8], out: &mut [u8]) -> Outcome {
+        match table::in_bytes(nodes, rest) {
+            Some(bytes) => write::proved(&bytes, out),
+            None => Outcome::refusal(9, 0),
+        }
+    }
+
+    pub fn whole(nodes: &[NodeRecord], rest: &[u8]) -> Made {
+        model::table::write_records(&of_model(nodes), rest, usize::MAX)
+    }
+
+    /// The model's own records.
+    pub fn of_model(nodes: &[NodeRecord]) -> Vec<model::table::Record> {
+        let record = |&NodeRecord { kind, a, b }: &NodeRecord| model::table::Record { kind, a, b };
+        nodes.iter().map(record).collect()
+    }
+
+    pub fn fast(nodes: &[NodeRecord], rest: &[u8], out: &mut [u8]) -> Outcome {
+        match fast::write::write_records(nodes, rest, out) {
+            Ok(length) => Outcome::answer(length, 0),
+            Err(refusal) => Outcome::refusal(refusal.number, refusal.place),
+        }
+    }
+
+    pub const WRONG: [WrongOfRecords; 31] = [
+        ("refuses everything", refuses_everything),
+        ("gives one fixed shape", one_fixed_shape),
+        ("wraps the count at 65,536", count_of_16_bits),
+        ("takes 6,145 records", more_nodes),
+        ("takes the first 6,144 of more", cut_to_most),
+        ("gives 10 for a record too many", ten_for_too_many),
+        ("takes no records for an Int", none_taken),
+        ("places no records at 2", none_at_2),
+        ("places no records at the rest", none_at_rest),
+        ("checks the rest before the count", rest_first),
+        ("counts places from the rest", from_the_rest),
+        ("leaves the count out of places", without_the_count),
+        ("counts 5 bytes a record", records_of_5),
+        ("wraps places at 65,536", places_of_16_bits),
+        ("leaves second bytes as they were", second_bytes),
+        ("has a's high byte for the second", high_byte_second),
+        ("takes the kind modulo 16", kind_modulo_16),
+        ("swaps a and b", swapped),
+        ("takes a and b high byte first", high_byte_first),
+        ("drops a's high byte", low_byte_of_a),
+        ("drops b's high byte", low_byte_of_b),
+        ("takes one record too few", one_too_few),
+        ("copies one record too few", last_not_copied),
+        ("takes the records last first", last_first),
+        ("takes record 0 for the root", root_first),
+        ("takes bytes left over", left_over),
+        ("gives 12 before 15 and 16", twelve_first),
         ("needs one byte more", needed_one_more),
         ("refuses the length needed", room_to_spare),
         ("writes one byte more", one_byte_more),

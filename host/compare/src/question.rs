@@ -1,8 +1,10 @@
 //! What a call is asked: bytes, a part of them, or one or two inputs and lent buffers. Programs are
 //! asked, what they say is compared, and a question on which they differ can be made smaller.
 
-use crate::shrink::{drop_entries, shrink, shrink_sheet};
-use crate::{hex, Lends, Made, Makes, Outcome, Parts, Whole, WholeOf};
+use crate::cases::table::RecordTable;
+use crate::shrink::{drop_entries, shrink, shrink_records, shrink_sheet};
+use crate::{hex, Lends, Made, Makes, MakesOfRecords, Outcome, Parts};
+use crate::{Whole, WholeOf, WholeOfRecords};
 use std::cell::Cell;
 use std::fmt;
 use std::sync::OnceLock;
@@ -111,6 +113,14 @@ pub struct Single {
     pub whole: Made,
 }
 
+/// A table whose nodes are records and the lengths of the lent buffers, for `write_records`.
+pub struct Records {
+    pub table: RecordTable,
+    pub rooms: Vec<usize>,
+    /// what the model makes of it
+    pub whole: Made,
+}
+
 /// An outcome, and the buffer afterwards.
 #[derive(PartialEq)]
 pub struct Lent {
@@ -174,6 +184,24 @@ fn in_words(rooms: &[usize]) -> String {
 /// How often a question is tried in another form: long inputs could take very long.
 const TRIES: usize = 10_000;
 
+#[derive(Default)]
+struct Tries(Cell<usize>);
+
+impl Tries {
+    /// Whether there is one left for this question.
+    fn one_more(&self) -> bool {
+        self.0.set(self.0.get() + 1);
+        self.0.get() <= TRIES
+    }
+}
+
+/// The question with the one buffer that shows a difference.
+fn with_one_room<Q>(rooms: &[usize], with: impl Fn(usize) -> Q, differs: &dyn Fn(&Q) -> bool) -> Q {
+    let mut each = rooms.iter().map(|&room| with(room));
+    let telling = each.find(|question| differs(question));
+    telling.expect("it differs with one of the buffers")
+}
+
 impl Pair {
     /// With buffers of each length that matters.
     pub fn new(first: Vec<u8>, second: Vec<u8>, whole: Whole) -> Pair {
@@ -192,10 +220,9 @@ impl Pair {
 
     /// The smallest found that differs, with the one buffer that shows it.
     pub fn smallest(&self, whole: Whole, differs: &dyn Fn(&Pair) -> bool) -> Pair {
-        let tries = Cell::new(0);
+        let tries = Tries::default();
         let telling = |first: &[u8], second: &[u8]| {
-            tries.set(tries.get() + 1);
-            tries.get() <= TRIES && differs(&Pair::new(first.to_vec(), second.to_vec(), whole))
+            tries.one_more() && differs(&Pair::new(first.to_vec(), second.to_vec(), whole))
         };
         let (mut first, mut second) = (self.first.clone(), self.second.clone());
         // whole entries first, in both, for that is quick (a template has none)
@@ -216,12 +243,7 @@ impl Pair {
             rooms: vec![room],
             whole: pair.whole.clone(),
         };
-        let telling = pair
-            .rooms
-            .iter()
-            .map(|&room| with(room))
-            .find(|pair| differs(pair));
-        telling.expect("it differs with one of the buffers")
+        with_one_room(&pair.rooms, with, differs)
     }
 }
 
@@ -245,6 +267,9 @@ impl fmt::Display for Pair {
     }
 }
 
+/// Lengths of buffers for a table or an encoding that is refused.
+const IF_REFUSED: [usize; 4] = [0, 14, 2048, 5000];
+
 /// Makes an input smaller while it differs.
 pub type Shrink = fn(&[u8], &dyn Fn(&[u8]) -> bool) -> Vec<u8>;
 
@@ -254,7 +279,7 @@ impl Single {
         let whole = whole(&bytes);
         Single {
             bytes,
-            rooms: rooms(&whole, [0, 14, 2048, 5000]),
+            rooms: rooms(&whole, IF_REFUSED),
             whole,
         }
     }
@@ -270,10 +295,9 @@ impl Single {
         shrink: Shrink,
         differs: &dyn Fn(&Single) -> bool,
     ) -> Single {
-        let tries = Cell::new(0);
+        let tries = Tries::default();
         let small = shrink(&self.bytes, &|bytes| {
-            tries.set(tries.get() + 1);
-            tries.get() <= TRIES && differs(&Single::new(bytes.to_vec(), whole))
+            tries.one_more() && differs(&Single::new(bytes.to_vec(), whole))
         });
         let small = Single::new(small, whole);
         let with = |room| Single {
@@ -281,12 +305,7 @@ impl Single {
             rooms: vec![room],
             whole: small.whole.clone(),
         };
-        let telling = small
-            .rooms
-            .iter()
-            .map(|&room| with(room))
-            .find(|single| differs(single));
-        telling.expect("it differs with one of the buffers")
+        with_one_room(&small.rooms, with, differs)
     }
 }
 
@@ -306,6 +325,68 @@ impl Question for Single {
 impl fmt::Display for Single {
     fn fmt(&self, out: &mut fmt::Formatter<'_>) -> fmt::Result {
         write!(out, "{} | {}", hex(&self.bytes), in_words(&self.rooms))
+    }
+}
+
+impl Records {
+    /// With buffers of each length that matters.
+    pub fn new(table: RecordTable, whole: WholeOfRecords) -> Records {
+        let whole = whole(&table.nodes, &table.rest);
+        Records {
+            table,
+            rooms: rooms(&whole, IF_REFUSED),
+            whole,
+        }
+    }
+
+    pub fn right(&self) -> AllLent {
+        right(&self.whole, &self.rooms)
+    }
+
+    /// The smallest found that differs, with the one buffer that shows it.
+    pub fn smallest(&self, whole: WholeOfRecords, differs: &dyn Fn(&Records) -> bool) -> Records {
+        let tries = Tries::default();
+        let small = shrink_records(&self.table, |table| {
+            tries.one_more() && differs(&Records::new(table.clone(), whole))
+        });
+        let small = Records::new(small, whole);
+        let with = |room| Records {
+            table: small.table.clone(),
+            rooms: vec![room],
+            whole: small.whole.clone(),
+        };
+        with_one_room(&small.rooms, with, differs)
+    }
+}
+
+impl Question for Records {
+    type Program = MakesOfRecords;
+    type Said = AllLent;
+
+    fn ask(&self, program: MakesOfRecords) -> AllLent {
+        let RecordTable { nodes, rest } = &self.table;
+        lend_each(&self.rooms, |out| program(nodes, rest, out))
+    }
+
+    fn outcomes(said: &AllLent) -> Vec<Outcome> {
+        said.0.iter().map(|lent| lent.outcome).collect()
+    }
+}
+
+impl fmt::Display for Records {
+    fn fmt(&self, out: &mut fmt::Formatter<'_>) -> fmt::Result {
+        let mut left = &self.table.nodes[..];
+        write!(out, "{} records", left.len())?;
+        while let Some(node) = left.first() {
+            let same = left.iter().take_while(|other| *other == node).count();
+            write!(out, " ({}, {}, {})", node.kind, node.a, node.b)?;
+            if same > 1 {
+                write!(out, "x{same}")?;
+            }
+            left = &left[same..];
+        }
+        let rest = hex(&self.table.rest);
+        write!(out, " | {rest} | {}", in_words(&self.rooms))
     }
 }
 

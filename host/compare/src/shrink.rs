@@ -2,7 +2,7 @@
 //! it.
 
 use crate::cases::leb128;
-use crate::cases::table::Table;
+use crate::cases::table::{RecordTable, Table};
 use std::ops::Range;
 
 /// Simplifies and drops bytes while the input differs.
@@ -79,6 +79,26 @@ pub fn shrink_table(input: &[u8], differs: impl Fn(&[u8]) -> bool) -> Vec<u8> {
         0..=SHORT => shrink(&bytes, differs),
         _ => bytes,
     }
+}
+
+/// As `shrink_table`, for a table whose nodes are records. More than two bytes can count are only made
+/// fewer, from the end.
+pub fn shrink_records(input: &RecordTable, differs: impl Fn(&RecordTable) -> bool) -> RecordTable {
+    let mut table = input.clone();
+    for size in sizes(table.nodes.len()) {
+        let mut fewer = table.clone();
+        fewer.nodes.truncate(table.nodes.len().saturating_sub(size));
+        if fewer != table && differs(&fewer) {
+            table = fewer;
+        }
+    }
+    let Some(bytes) = table.bytes() else {
+        return table;
+    };
+    let small = shrink_table(&bytes, |bytes| {
+        RecordTable::of(bytes).is_some_and(|table| differs(&table))
+    });
+    RecordTable::of(&small).unwrap_or(table)
 }
 
 /// Longer tables are not changed byte by byte.

@@ -3,14 +3,18 @@
 //! down the call went. What an empty call takes is subtracted.
 
 use crate::cases::sheets::{equal, symbol_of, Sheet};
-use crate::cases::table::{chain, doubled, kind, largest, letters, m4_table, records, Node, Table};
+use crate::cases::table::{
+    chain, doubled, kind, largest, letters, m4_table, records, Node, RecordTable, Table,
+};
 use crate::cases::{function, leb128, long, nested, record, symbol};
 use crate::Parts;
 
-/// What a call may take. `write` notes something of each of up to 6,144 nodes.
+/// What a call may take. `write` notes something of each of up to 6,144 nodes, and `write_records` holds
+/// their section, of 36,864 bytes, beside that.
 pub const MOST_FOR_READ: usize = 4096;
 pub const MOST_FOR_ANOTHER: usize = 8192;
 pub const MOST_FOR_TABLES: usize = 32_768;
+pub const MOST_FOR_RECORDS: usize = 65_536;
 
 /// Painted below the caller: far more than any call may take.
 const PAINTED: usize = 512 * 1024;
@@ -397,6 +401,33 @@ pub fn worst_for_write() -> Vec<(String, Vec<u8>)> {
         ),
     ];
     inputs.extend(more.map(|(name, bytes)| (name.to_string(), bytes)));
+    inputs
+}
+
+/// The stored worst inputs for `write_records`: those for `write` that have this form, the deep ones with as
+/// many nodes as can be, and too many nodes.
+pub fn worst_for_records() -> Vec<(String, RecordTable)> {
+    let as_records = |(name, bytes): (String, Vec<u8>)| Some((name, RecordTable::of(&bytes)?));
+    let mut inputs: Vec<_> = worst_for_write()
+        .into_iter()
+        .filter_map(as_records)
+        .collect();
+    // the first ones have 16 levels
+    let deep = inputs
+        .iter()
+        .take_while(|(name, _)| name.starts_with("15 "));
+    for (name, mut table) in deep.cloned().collect::<Vec<_>>() {
+        // what is not used stands just before the root, so that all targets stay what they are
+        let root = table.nodes.len() - 1;
+        let unused = vec![table.nodes[0]; 6144 - table.nodes.len()];
+        table.nodes.splice(root..root, unused);
+        inputs.push((format!("{name}, and 6,144 nodes"), table));
+    }
+    for count in [65_535, 65_537] {
+        let nodes = vec![Default::default(); count];
+        let rest = vec![0; 6];
+        inputs.push((format!("{count} Ints"), RecordTable { nodes, rest }));
+    }
     inputs
 }
 

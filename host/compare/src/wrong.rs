@@ -1,9 +1,10 @@
-//! Models of `child`, `name`, `write` and `table` with one fault each, made from the answers of the fast
-//! ones. (Those of the other calls are faults inside `fast`.)
+//! Models of `child`, `name`, `write`, `write_records` and `table` with one fault each, made from the answers
+//! of the fast ones. (Those of the other calls are faults inside `fast`.)
 
 use crate::cases::leb128;
 use crate::{Makes, Outcome};
 
+pub mod records;
 pub mod table;
 pub mod write;
 

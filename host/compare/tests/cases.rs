@@ -2,7 +2,8 @@
 
 use compare::cases::fills::{Chains, FillInputs, JoinInputs};
 use compare::cases::sheets::{symbol_of, SheetInputs};
-use compare::cases::table::{doubled, largest, m4_table, wrapping, Table, M4};
+use compare::cases::table::{doubled, largest, m4_table, wrapping, RecordTable, Table, M4};
+use compare::cases::tables::records::{always_records, RecordInputs};
 use compare::cases::tables::{always_write, EncodingInputs, WriteInputs};
 use compare::cases::{any_k, Inputs, PartInputs};
 use compare::random::Random;
@@ -34,6 +35,9 @@ fn same_seed_same_inputs() {
     let inputs = |seed| EncodingInputs::new(seed).take(500).collect::<Vec<_>>();
     assert_eq!(inputs(1), inputs(1));
     assert_ne!(inputs(1), inputs(2));
+    let inputs = |seed| RecordInputs::new(seed).take(500).collect::<Vec<_>>();
+    assert!(inputs(1) == inputs(1));
+    assert!(inputs(1) != inputs(2));
 }
 
 /// The numbers that splitmix64 gives for this seed wherever it is published.
@@ -251,6 +255,71 @@ fn tables_at_the_limits() {
         }
     }
     assert!(shared > 300, "{shared}");
+}
+
+/// Every table for `write` is asked with its nodes as records, if they can be; and what has no such form
+/// is cut in its first section, or has a second byte that is not 0.
+#[test]
+fn every_table_as_records() {
+    let (mut same, mut cut, mut second, mut own) = (0, 0, 0, 0);
+    for (bytes, records) in WriteInputs::new(1).zip(RecordInputs::new(1)).take(5000) {
+        if records.bytes().as_ref() == Some(&bytes) {
+            same += 1;
+            continue;
+        }
+        own += 1;
+        let count = bytes
+            .get(..2)
+            .map(|two| u16::from_le_bytes([two[0], two[1]]) as usize);
+        match count.and_then(|count| bytes.get(2..2 + 6 * count)) {
+            None => cut += 1,
+            Some(nodes) => second += nodes.chunks(6).any(|node| node[1] != 0) as usize,
+        }
+    }
+    assert_eq!(own, cut + second);
+    assert!(
+        same > 4000 && cut > 50 && second > 50,
+        "{same} {cut} {second}"
+    );
+}
+
+/// No records, and as many as matter: each with a rest that is good, and with one that is broken.
+#[test]
+fn records_of_every_number() {
+    let mut seen = [[0; 2]; 6];
+    for table in RecordInputs::new(1).take(4000).chain(always_records()) {
+        let sort = match table.nodes.len() {
+            0 => 0,
+            6144 => 1,
+            6145 => 2,
+            65_535 => 3,
+            65_536 => 4,
+            65_537..=71_680 => 5,
+            _ => continue,
+        };
+        // a rest that is good behind one Int
+        let one = RecordTable {
+            nodes: vec![Default::default()],
+            rest: table.rest,
+        };
+        let good = one
+            .bytes()
+            .is_some_and(|bytes| write::whole(&bytes).is_ok());
+        seen[sort][good as usize] += 1;
+    }
+    let enough = |seen: &[usize; 2]| seen.iter().all(|&times| times >= 5);
+    assert!(seen.iter().all(enough), "{seen:?}");
+}
+
+/// Records and bytes are two forms of a table.
+#[test]
+fn records_in_bytes() {
+    for table in RecordInputs::new(2).take(2000) {
+        match table.bytes() {
+            Some(bytes) => assert!(RecordTable::of(&bytes) == Some(table)),
+            None => assert!(table.nodes.len() > 65_535),
+        }
+    }
 }
 
 #[test]

@@ -2,11 +2,14 @@
 
 use compare::cases::fills::{FillInputs, JoinInputs};
 use compare::cases::sheets::{equal, symbol_of, Sheet};
-use compare::cases::table::{kind, m4_table, Node, Table};
+use compare::cases::table::{kind, m4_table, Node, RecordTable, Table};
+use compare::cases::tables::records::RecordInputs;
 use compare::cases::tables::{EncodingInputs, WriteInputs};
 use compare::cases::{function, leb128, long, nested, record};
-use compare::question::{Pair, Question, Single};
-use compare::{child, fill, join, name, read, sheet, table, write, Outcome};
+use compare::question::{Pair, Question, Records, Single};
+use compare::{child, fill, join, name, read, sheet, table, write, write_records};
+use compare::{MakesOfRecords, Outcome};
+use shiulbart::NodeRecord;
 
 fn agree(bytes: &[u8]) {
     let right = read::model(bytes);
@@ -50,6 +53,24 @@ fn writes_agree(table: &[u8]) {
     let right = single.right();
     assert!(single.ask(write::proved) == right, "proved, on {single}");
     assert!(single.ask(write::fast) == right, "fast, on {single}");
+    // and with the nodes as records, if they can be
+    if let Some(table) = RecordTable::of(table) {
+        let records = records_agree(table);
+        assert!(records.right() == right, "model, on {records}");
+    }
+}
+
+fn records_agree(table: RecordTable) -> Records {
+    let records = Records::new(table, write_records::whole);
+    let right = records.right();
+    for (name, program) in [
+        ("proved", write_records::proved as MakesOfRecords),
+        ("fast", write_records::fast),
+        ("in bytes", write_records::in_bytes),
+    ] {
+        assert!(records.ask(program) == right, "{name}, on {records}");
+    }
+    records
 }
 
 fn tables_agree(bytes: &[u8]) {
@@ -474,6 +495,41 @@ fn tables_of_lists_of_up_to_300() {
     }
 }
 
+/// Each number of records up to the first hundreds, and more by steps, before each sort of rest.
+#[test]
+fn records_of_every_count() {
+    let int = NodeRecord::default();
+    let near = |count: usize| count - 3..count + 3;
+    let counts = (0..300)
+        .chain((300..140_000).step_by(2999))
+        .chain(near(6144))
+        .chain(near(65_536))
+        .chain(near(65_536 + 6144));
+    for count in counts {
+        for rest in [&[0; 6][..], &[], &[0], &[1, 0, 0, 0], &[0; 7]] {
+            records_agree(RecordTable {
+                nodes: vec![int; count],
+                rest: rest.to_vec(),
+            });
+        }
+    }
+}
+
+/// Each first count of the rest, with no records, with one and with two.
+#[test]
+fn the_rest_of_every_count() {
+    for nodes in [&[][..], &[(0, 0, 0)], &[(10, 9, 0), (5, 0, 1)]] {
+        let record = |&(kind, a, b): &(u8, u16, u16)| NodeRecord::new(kind, a, b);
+        let nodes: Vec<NodeRecord> = nodes.iter().map(record).collect();
+        for count in (0..=300u16).chain((0..=65_535).step_by(61)) {
+            let mut rest = count.to_le_bytes().to_vec();
+            rest.extend([0; 8]);
+            let nodes = nodes.clone();
+            records_agree(RecordTable { nodes, rest });
+        }
+    }
+}
+
 #[test]
 fn the_tables_of_every_input_of_up_to_two_bytes() {
     tables_agree(&[]);
@@ -544,7 +600,7 @@ fn taken_apart_as_the_model_does() {
     }
 }
 
-/// What `Pair` and `Single` say of a short buffer is what the model itself says with that much room.
+/// What `Pair`, `Single` and `Records` say of a short buffer is what the model itself says with that much room.
 #[test]
 fn twelve_is_the_models_own() {
     let says = |said: Result<Vec<u8>, model::Refusal>| match said {
@@ -569,6 +625,15 @@ fn twelve_is_the_models_own() {
         let single = Single::new(bytes, write::whole);
         for (lent, &room) in single.right().0.iter().zip(&single.rooms) {
             assert_eq!(lent.outcome, says(model::table::write(&single.bytes, room)));
+        }
+    }
+    for table in RecordInputs::new(1).take(300) {
+        let records = Records::new(table, write_records::whole);
+        let RecordTable { nodes, rest } = &records.table;
+        let nodes = write_records::of_model(nodes);
+        for (lent, &room) in records.right().0.iter().zip(&records.rooms) {
+            let own = says(model::table::write_records(&nodes, rest, room));
+            assert_eq!(lent.outcome, own);
         }
     }
     for bytes in EncodingInputs::new(1).take(300) {

@@ -1,13 +1,16 @@
 //! Every wrong model is told apart by a small input; the outcomes are those that 01-scope.md gives.
 
 use compare::cases::sheets::{equal, symbol_of, Sheet};
-use compare::cases::table::{chain, doubled, kind, letters, wrapping, Node, Table};
+use compare::cases::table::{
+    chain, doubled, kind, largest, letters, wrapping, Node, RecordTable, Table,
+};
 use compare::cases::{function, long, nested, record, symbol};
-use compare::question::{Pair, Question, Shrink, Single};
+use compare::question::{Pair, Question, Records, Shrink, Single};
 use compare::read::{self, WRONG};
 use compare::shrink::{shrink, shrink_sheet, shrink_table};
-use compare::{child, fill, hex, join, name, sheet, table, write};
+use compare::{child, fill, hex, join, name, sheet, table, write, write_records};
 use compare::{Lends, Makes, Whole, WholeOf, WrongLends, WrongMakes};
+use shiulbart::NodeRecord;
 
 #[test]
 fn each_differs_on_a_small_input() {
@@ -918,6 +921,110 @@ fn each_of_table_differs_on_a_small_input() {
     ]);
     let programs = [table::proved, table::fast];
     made_apart_by(&table::WRONG, programs, table::whole, cases);
+}
+
+#[test]
+fn each_of_write_records_differs_on_a_small_input() {
+    let records = |nodes: &[(u8, u16, u16)], rest: &[u8]| {
+        let record = |&(kind, a, b): &(u8, u16, u16)| NodeRecord::new(kind, a, b);
+        RecordTable {
+            nodes: nodes.iter().map(record).collect(),
+            rest: rest.to_vec(),
+        }
+    };
+    let of = |table: Table| RecordTable::of(&table.bytes()).unwrap();
+    const NOTHING: &[u8] = &[0; 6];
+    let ints = |count: usize| records(&vec![(0, 0, 0); count], NOTHING);
+    let none = |rest: &[u8]| records(&[], rest);
+    let cut = || records(&[(0, 0, 0)], &[0]);
+    let two = |node| records(&[(0, 0, 0), node], NOTHING);
+    let array = |a, b| Table::new(&[(0, 0, 0), (5, a, b)], &vec![(0, 0); a as usize + 1], &[]);
+    let blank = |number| records(&[(10, number, 0)], NOTHING);
+    // links enough for the Symbol's b to need two bytes, and one name for all
+    let texts = of(Table::new(&[(9, 0, 256)], &[(0, 0); 256], &[(0, 0)]));
+    let mut far = of(largest([0; 4]));
+    far.rest.push(0);
+    let doubled = |levels| of(doubled(levels));
+    let cases: [(RecordTable, usize, &str, &str); write_records::WRONG.len()] = [
+        (ints(1), 1, "ok 1 0 [20]", "no 9 0 [03]"),
+        (blank(0), 1, "ok 1 0 [00]", "ok 1 0 [20]"),
+        (ints(65_537), 1, "no 9 0 [03]", "ok 1 0 [20]"),
+        (ints(6145), 1, "no 9 0 [03]", "ok 1 0 [20]"),
+        (ints(70_000), 1, "no 9 0 [03]", "ok 1 0 [20]"),
+        (ints(6145), 0, "no 9 0", "no 10 6144"),
+        (none(NOTHING), 1, "no 9 0 [03]", "ok 1 0 [20]"),
+        (none(NOTHING), 0, "no 9 0", "no 9 2"),
+        (ints(6145), 0, "no 9 0", "no 9 36872"),
+        (none(&[0]), 0, "no 9 0", "no 9 2"),
+        (cut(), 0, "no 9 8", "no 9 0"),
+        (cut(), 0, "no 9 8", "no 9 6"),
+        (cut(), 0, "no 9 8", "no 9 7"),
+        (far, 0, "no 9 71688", "no 9 6152"),
+        (ints(1), 1, "ok 1 0 [20]", "no 10 0 [03]"),
+        (blank(256), 0, "no 12 5", "no 10 0"),
+        (records(&[(16, 0, 0)], NOTHING), 0, "no 10 0", "no 12 1"),
+        (of(array(0, 1)), 1, "ok 1 0 [60]", "no 10 1 [03]"),
+        (of(array(1, 1)), 1, "ok 1 0 [60]", "no 10 1 [03]"),
+        (blank(256), 0, "no 12 5", "no 12 1"),
+        (texts, 0, "no 12 261", "no 12 4"),
+        (two((2, 0, 0)), 1, "ok 1 0 [22]", "ok 1 0 [20]"),
+        (two((2, 0, 0)), 1, "ok 1 0 [22]", "ok 1 0 [20]"),
+        (two((2, 0, 0)), 1, "ok 1 0 [22]", "ok 1 0 [20]"),
+        (two((2, 0, 0)), 1, "ok 1 0 [22]", "ok 1 0 [20]"),
+        (
+            records(&[(0, 0, 0)], &[0; 7]),
+            1,
+            "no 9 14 [03]",
+            "ok 1 0 [20]",
+        ),
+        (doubled(15), 0, "no 16 0", "no 12 131069"),
+        (ints(1), 0, "no 12 1", "no 12 2"),
+        (ints(1), 1, "ok 1 0 [20]", "no 12 1 [03]"),
+        (ints(1), 2, "ok 1 0 [20 0A]", "ok 1 0 [20 00]"),
+        (doubled(1), 3, "no 12 5 [03 0A 11]", "no 12 5 [41 02 00]"),
+    ];
+    for ((table, room, right, said), (fault, model)) in cases.into_iter().zip(write_records::WRONG)
+    {
+        let mut records = Records::new(table, write_records::whole);
+        records.rooms = vec![room];
+        assert_eq!(records.right().to_string(), right, "{fault}");
+        for program in [
+            write_records::proved,
+            write_records::fast,
+            write_records::in_bytes,
+        ] {
+            assert_eq!(records.ask(program).to_string(), right, "{fault}");
+        }
+        assert_eq!(records.ask(model).to_string(), said, "{fault}");
+    }
+}
+
+#[test]
+fn a_difference_in_records_is_made_small() {
+    let smallest = |fault: &str, table: RecordTable| {
+        let mut all = write_records::WRONG.into_iter();
+        let (_, wrong) = all.find(|(name, _)| *name == fault).unwrap();
+        let differs = |records: &Records| records.ask(wrong) != records.right();
+        let records = Records::new(table, write_records::whole);
+        assert!(differs(&records));
+        records.smallest(write_records::whole, &differs)
+    };
+    let mut large = Table::new(&[(0, 0, 0)], &[(0, 0); 50], &[(0, 0); 60]);
+    let array = large.push(kind::ARRAY, &[(0, 0)]);
+    large.push(kind::RECORD, &[(array, 3); 100]);
+    let large = RecordTable::of(&large.counted().bytes()).unwrap();
+    let small = smallest("swaps a and b", large.clone());
+    assert!(small.table.nodes.len() <= 2, "{small}");
+    assert!(small.table.rest.len() <= 10, "{small}");
+    assert_eq!(small.rooms.len(), 1);
+    let mut many = large;
+    many.nodes.resize(70_000, NodeRecord::default());
+    let small = smallest("wraps the count at 65,536", many.clone());
+    assert_eq!(small.table.nodes.len(), 65_537);
+    let small = smallest("takes the first 6,144 of more", many);
+    assert_eq!(small.table.nodes.len(), 6145);
+    let words = small.to_string();
+    assert!(words.starts_with("6145 records "), "{words}");
 }
 
 #[test]

@@ -278,6 +278,50 @@ fn shape_of(table: &Table, index: usize) -> Shape {
 }
 
 // ---------------------------------------------------------------------------------------------
+// From lent records to bytes.
+
+/// A node as the editor lends it; not the shape of that name.
+/// > the editor lends its nodes as a slice of records (kind, a, b), the rest of the table as one
+/// > byte buffer
+///
+/// decided: "kind is one byte, a and b two bytes each"
+#[derive(Clone, Copy, Debug, PartialEq, Eq)]
+pub struct Record {
+    pub kind: u8,
+    pub a: u16,
+    pub b: u16,
+}
+
+/// The encoding of the root of the table with these nodes and this rest.
+/// > the answer and places are those of the same table in bytes (no records, or more than 6,144:
+/// > 9 at 0)
+pub fn write_records(nodes: &[Record], rest: &[u8], room: usize) -> Result<Vec<u8>, Refusal> {
+    // Before the count is put in two bytes: any number of records may come.
+    if nodes.is_empty() || nodes.len() > limits::NODES {
+        return refuse(9, 0);
+    }
+    write(&same_table(nodes, rest), room)
+}
+
+/// "the same table in bytes", of at most 6,144 records.
+///
+/// decided: "places in the rest are those of the whole table in bytes, so the rest starts at
+/// 2 + 6 x records"
+fn same_table(nodes: &[Record], rest: &[u8]) -> Vec<u8> {
+    let mut bytes = Vec::new();
+    put_number(&mut bytes, nodes.len());
+    for node in nodes {
+        bytes.push(node.kind);
+        // decided: "the second byte of the table form counts as zero"
+        bytes.push(0);
+        put_number(&mut bytes, usize::from(node.a));
+        put_number(&mut bytes, usize::from(node.b));
+    }
+    bytes.extend(rest);
+    bytes
+}
+
+// ---------------------------------------------------------------------------------------------
 // From bytes to a table.
 
 /// > From bytes to table nothing is shared: children first, then the node; with each node its

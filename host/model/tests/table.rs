@@ -6,7 +6,7 @@ use common::{array, arrays, function, hex, map, no, record, symbol, Random};
 use model::limits;
 use model::read::read;
 use model::shape::{encode, encoded_len, Shape};
-use model::table::{to_table, write};
+use model::table::{to_table, write, write_records, Record};
 use model::Refusal;
 
 const ROOM: usize = 100_000;
@@ -617,6 +617,353 @@ fn spoiled_tables() {
         }
     }
     for number in [0, 9, 10, 11] {
+        assert!(seen[number] > 50, "{seen:?}");
+    }
+}
+
+// ---------------------------------------------------------------------------------------------
+// Nodes lent as records.
+
+fn records(nodes: &[(u8, u16, u16)]) -> Vec<Record> {
+    nodes
+        .iter()
+        .map(|&(kind, a, b)| Record { kind, a, b })
+        .collect()
+}
+
+/// The same table as it is lent, where it can be: all its nodes are there, with zero as second
+/// bytes. The rest is everything after them, right or wrong.
+fn lent(table: &[u8]) -> Option<(Vec<Record>, &[u8])> {
+    let count = usize::from(u16::from_le_bytes([*table.first()?, *table.get(1)?]));
+    let nodes = table.get(2..2 + 6 * count)?.chunks_exact(6);
+    if nodes.clone().any(|node| node[1] != 0) {
+        return None;
+    }
+    let records = nodes
+        .map(|node| Record {
+            kind: node[0],
+            a: u16::from_le_bytes([node[2], node[3]]),
+            b: u16::from_le_bytes([node[4], node[5]]),
+        })
+        .collect();
+    Some((records, &table[2 + 6 * count..]))
+}
+
+/// This table's nodes as records, and its rest.
+fn write_lent(table: &Raw, room: usize) -> Result<Vec<u8>, Refusal> {
+    let bytes = table.bytes();
+    let (nodes, rest) = lent(&bytes).expect("it can be lent");
+    assert_eq!(nodes.len(), table.nodes.len());
+    write_records(&nodes, rest, room)
+}
+
+/// No links, no names, no text.
+const NO_REST: [u8; 6] = [0; 6];
+
+/// M4 of the bench card: its table's nodes and the rest, from byte 26 of 54.
+const M4: &str = "42 07 00 02 01 61 20 01 62 62";
+const M4_NODES: [(u8, u16, u16); 4] = [(0, 0, 0), (2, 0, 0), (5, 0, 1), (7, 1, 2)];
+const M4_REST: &str = "03 00 01 00 00 00 00 00 00 00 02 00 01 00 \
+    02 00 00 00 01 00 01 00 01 00 02 00 61 62";
+
+#[test]
+fn records_of_the_card() {
+    let (nodes, rest) = (records(&M4_NODES), hex(M4_REST));
+    assert_eq!(write_records(&nodes, &rest, 10), Ok(hex(M4)));
+    assert_eq!(write_records(&nodes, &rest, usize::MAX), Ok(hex(M4)));
+    assert_eq!(write_records(&nodes, &rest, 9), no(12, 10));
+    assert_eq!(write_records(&nodes, &rest, 0), no(12, 10));
+    let table = to_table(&hex(M4), ROOM).unwrap();
+    assert_eq!(lent(&table), Some((nodes, &rest[..])));
+    // a and b are two bytes each, low first.
+    assert_eq!(
+        write_records(&records(&[(10, 0x1234, 0)]), &NO_REST, ROOM),
+        Ok(hex("45 02 00 34 12"))
+    );
+}
+
+#[test]
+fn number_of_records() {
+    // None, whatever the rest: nothing, the sections of a good table, a whole table.
+    let whole = to_table(&hex("20"), ROOM).unwrap();
+    for rest in [&[][..], &NO_REST, &hex(M4_REST), &whole] {
+        assert_eq!(write_records(&[], rest, ROOM), no(9, 0));
+        assert_eq!(write_records(&[], rest, 0), no(9, 0));
+    }
+    // Ints, and M4's nodes over and over: good nodes for every number of them.
+    let ints = vec![(0, 0, 0); 1_000_000];
+    let cards: Vec<_> = M4_NODES.iter().copied().cycle().take(1_000_000).collect();
+    let (ints, cards) = (records(&ints), records(&cards));
+    let rest = hex(M4_REST);
+    for count in [1, 4, 256, 6_143, 6_144] {
+        assert_eq!(write_records(&ints[..count], &NO_REST, 1), Ok(hex("20")));
+        if count % 4 == 0 {
+            assert_eq!(write_records(&cards[..count], &rest, 10), Ok(hex(M4)));
+        }
+    }
+    // Too many. From 65,537 on some wrap, in two bytes, to a number that would be good: 1, 4,
+    // 6,144 and 1 again.
+    let too_many = [
+        6_145, 6_148, 10_000, 32_768, 65_535, 65_536, 65_537, 65_540, 71_680, 71_681, 131_072,
+        131_073, 1_000_000,
+    ];
+    for count in too_many {
+        for room in [0, ROOM, usize::MAX] {
+            assert_eq!(write_records(&ints[..count], &NO_REST, room), no(9, 0));
+            assert_eq!(write_records(&cards[..count], &rest, room), no(9, 0));
+        }
+        // This comes before every other fault: of the rest, of the nodes.
+        let bad = vec![(255, 65_535, 65_535); count];
+        assert_eq!(write_records(&records(&bad), &[], 0), no(9, 0));
+        assert_eq!(write_records(&records(&bad), &rest, 0), no(9, 0));
+        assert_eq!(write_records(&ints[..count], &[0; 7], 0), no(9, 0));
+    }
+    // With 65,536 x 6 bytes of nodes more, the same rest would stand at the same place, if places
+    // wrapped.
+    let mut wrapped = records(&M4_NODES);
+    wrapped.extend(vec![ints[0]; 65_536]);
+    assert_eq!(write_records(&wrapped, &rest, ROOM), no(9, 0));
+    wrapped.rotate_left(4);
+    assert_eq!(write_records(&wrapped, &rest, ROOM), no(9, 0));
+}
+
+#[test]
+fn places_in_the_rest() {
+    // Places from the start of the rest.
+    let cases: &[(&str, usize)] = &[
+        // Link count missing, over 6,144, entries past the end.
+        ("", 0),
+        ("00", 0),
+        ("01 18 00 00 00 00", 0),
+        ("FF FF 00 00 00 00", 0),
+        ("01 00", 0),
+        ("01 00 00 00 00", 0),
+        // Name count.
+        ("00 00", 2),
+        ("00 00 00", 2),
+        ("00 00 01 08 00 00", 2),
+        ("00 00 01 00 00 00 00", 2),
+        ("01 00 00 00 00 00", 6),
+        ("02 00 00 00 00 00 00 00 00 00 01 00", 10),
+        // Text count.
+        ("00 00 00 00", 4),
+        ("00 00 00 00 00", 4),
+        ("00 00 00 00 01 00", 4),
+        ("00 00 00 00 01 08", 4),
+        ("00 00 01 00 00 00 00 00", 8),
+        ("01 00 00 00 00 00 01 00 00 00 00 00 01 00", 12),
+        // Leftover bytes: the first.
+        ("00 00 00 00 00 00 00", 6),
+        ("00 00 00 00 01 00 61 62 63", 7),
+    ];
+    for count in [1, 2, 3, 42, 43, 1_000, 6_144] {
+        let start = 2 + 6 * count;
+        for (rest, place) in cases {
+            let place = (start + place) as u32;
+            let rest = hex(rest);
+            // 9 comes before 10, 11, 15, 16 and 12.
+            for node in [(0, 0, 0), (11, 0, 0), (5, 0, 1)] {
+                let nodes = records(&vec![node; count]);
+                assert_eq!(write_records(&nodes, &rest, 0), no(9, place));
+                assert_eq!(write_records(&nodes, &rest, ROOM), no(9, place));
+            }
+        }
+        let nodes = records(&vec![(0, 0, 0); count]);
+        assert_eq!(write_records(&nodes, &NO_REST, ROOM), Ok(hex("20")));
+        // Much left over.
+        let mut rest = NO_REST.to_vec();
+        rest.resize(1_000_000, 0);
+        let place = (start + 6) as u32;
+        assert_eq!(write_records(&nodes, &rest, ROOM), no(9, place));
+    }
+    // At the limits and one over.
+    let mut table = Raw {
+        nodes: vec![(0, 0, 0, 0); 6_144],
+        links: vec![(9, 9); 6_144],
+        names: vec![(0, 2_048); 2_048],
+        text: vec![b'x'; 2_048],
+    };
+    assert_eq!(write_lent(&table, ROOM), Ok(hex("20")));
+    table.text.push(b'x');
+    let place = 6 + 10 * 6_144 + 4 * 2_048;
+    assert_eq!(write_lent(&table, ROOM), no(9, place));
+    table.names.push((0, 0));
+    assert_eq!(write_lent(&table, ROOM), no(9, 4 + 10 * 6_144));
+    table.links.push((0, 0));
+    assert_eq!(write_lent(&table, ROOM), no(9, 2 + 6 * 6_144));
+    table.nodes.push((0, 0, 0, 0));
+    assert_eq!(write_lent(&table, ROOM), no(9, 0));
+}
+
+#[test]
+fn broken_records() {
+    // Records 0 Int, 1 Bool, 2 under test, 3 Int; three links, two names.
+    let with = |node: (u8, u16, u16), links: [(u16, u16); 3]| {
+        let nodes = [(0, 0, 0), (2, 0, 0), node, (0, 0, 0)];
+        let table = raw(&nodes, &links, &[(0, 1), (1, 1)], b"ab");
+        write_lent(&table, ROOM)
+    };
+    let zero = [(0, 0); 3];
+    // A kind over 10.
+    for kind in 0..=255 {
+        let b = match kind {
+            5 | 8 => 1,
+            6 => 2,
+            _ => 0,
+        };
+        let expected = if kind > 10 { no(10, 2) } else { Ok(hex("20")) };
+        assert_eq!(with((kind, 0, b), zero), expected, "{kind}");
+    }
+    // Numbers of links, a and b.
+    let bad: &[(u8, u16, u16)] = &[
+        (0, 1, 0),
+        (0, 0, 1),
+        (4, 256, 0),
+        (4, 0, 256),
+        (5, 0, 0),
+        (5, 0, 2),
+        (5, 3, 1),
+        (6, 0, 1),
+        (6, 2, 2),
+        (7, 4, 0),
+        (7, 65_535, 1),
+        (7, 65_535, 65_535),
+        (8, 0, 0),
+        (8, 0, 4),
+        (9, 4, 0),
+        (9, 1, 3),
+        (10, 0, 1),
+        (10, 0, 256),
+    ];
+    for node in bad {
+        assert_eq!(with(*node, zero), no(10, 2), "{node:?}");
+    }
+    // Targets and names.
+    assert_eq!(with((5, 0, 1), [(1, 0), (9, 9), (9, 9)]), Ok(hex("20")));
+    assert_eq!(with((5, 0, 1), [(2, 0), (0, 0), (0, 0)]), no(10, 2));
+    assert_eq!(with((8, 0, 3), [(0, 0), (0, 0), (0, 1)]), no(10, 2));
+    assert_eq!(with((7, 0, 3), [(0, 0), (1, 1), (0, 1)]), Ok(hex("20")));
+    assert_eq!(with((7, 0, 3), [(0, 0), (1, 2), (0, 1)]), no(10, 2));
+    assert_eq!(with((9, 0, 3), [(0, 0), (1, 0), (0, 1)]), no(10, 2));
+    // The first broken record, up to the last of 6,144; before 11 and 12.
+    for place in [0, 1, 255, 256, 6_142, 6_143] {
+        let mut nodes = records(&[(0, 0, 0); 6_144]);
+        nodes[place..].fill(Record {
+            kind: 11,
+            a: 0,
+            b: 0,
+        });
+        let rest = hex("00 00 01 00 09 00 09 00 00 00");
+        assert_eq!(write_records(&nodes, &rest, 0), no(10, place as u32));
+    }
+}
+
+#[test]
+fn names_beside_records() {
+    let with = |names: &[(u16, u16)], text: &[u8]| {
+        write_lent(&raw(&[(1, 0, 0), (0, 0, 0)], &[], names, text), 0)
+    };
+    // Range, then UTF-8, name by name; before 12.
+    assert_eq!(with(&[(0, 2), (2, 0)], b"ab"), no(12, 1));
+    assert_eq!(with(&[(0, 2), (2, 1)], b"ab"), no(11, 1));
+    assert_eq!(with(&[(3, 0), (2, 1)], b"ab"), no(11, 0));
+    assert_eq!(with(&[(0, 0), (65_535, 65_535)], b"ab"), no(11, 1));
+    assert_eq!(with(&[(0, 0), (0, 2), (1, 1)], "é".as_bytes()), no(11, 2));
+    // 10 comes before, 15 and 16 after.
+    let mut deep = chain(20, (0, 0, 0, 0));
+    deep.names.push((0, 1));
+    assert_eq!(write_lent(&deep, 0), no(11, 0));
+    deep.nodes[20].0 = 11;
+    assert_eq!(write_lent(&deep, 0), no(10, 20));
+}
+
+#[test]
+fn root_of_records() {
+    // 15.
+    let fifteen = encode(&arrays(15, Shape::Int));
+    assert_eq!(write_lent(&chain(15, (0, 0, 0, 0)), 43), Ok(fifteen));
+    for count in [16, 17, 6_143] {
+        assert_eq!(write_lent(&chain(count, (0, 0, 0, 0)), 0), no(15, 0));
+    }
+    // 16: Symbols of one text of 2,042 and 2,043 letters.
+    let letters = |count: u16| {
+        let text = vec![b'a'; usize::from(count)];
+        raw(&[(9, 0, 1)], &[(0, 0)], &[(0, count)], &text)
+    };
+    let made = write_lent(&letters(2_042), 2_048).unwrap();
+    assert_eq!(made, encode(&symbol(&["a".repeat(2_042).as_str()])));
+    assert_eq!(write_lent(&letters(2_043), 0), no(16, 0));
+    assert_eq!(write_lent(&letters(2_043), ROOM), no(16, 0));
+    // 15 comes before 16.
+    assert_eq!(write_lent(&doubled(15, (0, 0, 0, 0)), 0), no(16, 0));
+    assert_eq!(write_lent(&doubled(16, (0, 0, 0, 0)), 0), no(15, 0));
+    // 12, after all the others.
+    assert_eq!(write_lent(&chain(15, (0, 0, 0, 0)), 42), no(12, 43));
+    assert_eq!(write_lent(&letters(2_042), 2_047), no(12, 2_048));
+    assert_eq!(write_lent(&letters(2_042), 0), no(12, 2_048));
+}
+
+/// > the answer and places are those of the same table in bytes
+#[test]
+fn records_and_the_same_table() {
+    // Answers whether it can be lent at all.
+    fn agree(table: &[u8]) -> bool {
+        let Some((nodes, rest)) = lent(table) else {
+            return false;
+        };
+        let expected = write(table, ROOM);
+        if let Ok(encoding) = &expected {
+            for room in [0, encoding.len() - 1, encoding.len()] {
+                assert_eq!(write_records(&nodes, rest, room), write(table, room));
+            }
+        }
+        assert_eq!(write_records(&nodes, rest, ROOM), expected);
+        true
+    }
+    let node = (0, 0, 0, 0);
+    let mut tables = vec![
+        raw(&[(0, 0, 0)], &[], &[], &[]),
+        raw(&[(7, 0, 0)], &[], &[], &[]),
+        raw(&[(10, 65_535, 0)], &[], &[], &[]),
+        raw(&[(9, 0, 2)], &[(0, 1), (0, 0)], &[(0, 2), (1, 1)], b"ab"),
+        raw(&[(9, 0, 2)], &[(0, 1), (0, 0)], &[(0, 2), (1, 2)], b"ab"),
+        raw(&[(8, 0, 1)], &[(0, 0)], &[], &[]),
+        raw(&[], &[], &[], &[]),
+    ];
+    tables.extend([1, 15, 16, 6_143].map(|count| chain(count, node)));
+    tables.extend([1, 8, 14, 15, 16, 3_072].map(|count| doubled(count, node)));
+    for count in [0, 1, 6_143, 6_144, 6_145, 10_000, 65_535] {
+        tables.push(Raw {
+            nodes: vec![node; count],
+            ..Raw::default()
+        });
+    }
+    for table in tables {
+        assert!(agree(&table.bytes()));
+    }
+    // Every table that is cut short behind its nodes.
+    let table = to_table(&hex(M4), ROOM).unwrap();
+    for length in 26..=table.len() {
+        assert!(agree(&table[..length]), "{length}");
+    }
+    // Tables of random shapes, with shared nodes, and spoiled.
+    let mut random = Random(10);
+    for _ in 0..1_000 {
+        let bytes = encode(&random.fitting_shape());
+        assert!(agree(&to_table(&bytes, ROOM).unwrap()));
+    }
+    let mut seen = [0; 17];
+    for _ in 0..10_000 {
+        let whole = random_table(&mut random).0.bytes();
+        assert!(agree(&whole));
+        let spoiled = random.spoiled(&whole);
+        for table in [whole, spoiled] {
+            if agree(&table) {
+                seen[write(&table, ROOM).err().map_or(0, |no| no.number) as usize] += 1;
+            }
+        }
+    }
+    for number in [0, 9, 10, 11, 15, 16] {
         assert!(seen[number] > 50, "{seen:?}");
     }
 }

@@ -45,8 +45,8 @@
 //! ```
 //!
 //! A *table* says node by node what a shape is built from: [`write`](write()) makes the encoding of it,
-//! [`table`](table()) makes a table of an encoding, and [`Table`] is a table as a Rust value, to be built
-//! and taken apart:
+//! and so does [`write_records`] where the nodes are a slice of records; [`table`](table()) makes a table
+//! of an encoding, and [`Table`] is a table as a Rust value, to be built and taken apart:
 //!
 //! ```
 //! # fn main() -> Result<(), Box<dyn std::error::Error>> {
@@ -69,9 +69,9 @@
 //! answer is lent a `&mut [u8]`. The proved code relies on that buffer overlapping nothing else that
 //! is lent to the call, and Rust's borrow rules rule such an overlap out, so that no function here
 //! is `unsafe`. A refusal leaves that buffer as it was; an answer of n bytes writes the first n and no
-//! other. Nothing is allocated but the answers of [`fill_to_vec`], [`join_to_vec`], [`write_to_vec`] and
-//! [`table_to_vec`], and what a [`Table`] holds. The calls have no state: any number of threads may make
-//! them at once.
+//! other. Nothing is allocated but the answers of [`fill_to_vec`], [`join_to_vec`], [`write_to_vec`],
+//! [`write_records_to_vec`] and [`table_to_vec`], and what a [`Table`] holds. The calls have no state: any
+//! number of threads may make them at once.
 //!
 //! # Linking
 //!
@@ -93,11 +93,11 @@ mod sys;
 mod table;
 
 pub use fill::{fill, fill_to_vec, join, join_to_vec};
-pub use nodes::{Fields, Link, Node, NodeId, Parameters, Table, TableError, Texts};
+pub use nodes::{Fields, Link, Node, NodeId, NodeRecord, Parameters, Table, TableError, Texts};
 pub use parts::{child, children, name, names, Child, Children, Name, Names, Primitive};
 pub use refusal::{Refusal, RefusalKind};
 pub use sheet::{sheet, SheetSize};
-pub use table::{table, table_to_vec, write, write_to_vec};
+pub use table::{table, table_to_vec, write, write_records, write_records_to_vec, write_to_vec};
 
 /// The length and depth of an accepted encoding, as [`read`] answers them.
 #[derive(Clone, Copy, Debug, PartialEq, Eq, PartialOrd, Ord, Hash)]

@@ -70,19 +70,35 @@ const BLANK: u8 = 10;
 /// ```
 #[derive(Clone, Debug, Default, PartialEq, Eq, Hash)]
 pub struct Table {
-    nodes: Vec<Entry>,
+    nodes: Vec<NodeRecord>,
     links: Vec<Link>,
     /// start and length in the text
     names: Vec<[u16; 2]>,
     text: Vec<u8>,
 }
 
-/// A node as it stands in the table: its rules are kept.
-#[derive(Clone, Copy, Debug, PartialEq, Eq, Hash)]
-struct Entry {
-    kind: u8,
-    a: u16,
-    b: u16,
+/// A node as it stands in a table, as [`write_records`](crate::write_records) takes it and
+/// [`Table::node_records`] lends it: three numbers, whose meaning [`write`](crate::write()) lists.
+///
+/// (It has nothing to do with the shape Record, which is a node like others.) In memory it is
+/// `shiulbart_node` of `include/shiulbart.h`. [`NodeRecord::default`] is an Int.
+#[repr(C)]
+#[derive(Clone, Copy, Debug, Default, PartialEq, Eq, PartialOrd, Ord, Hash)]
+pub struct NodeRecord {
+    /// What the node is: 0 to 10.
+    pub kind: u8,
+    /// The first link, or a blank's number.
+    pub a: u16,
+    /// How many links.
+    pub b: u16,
+}
+
+impl NodeRecord {
+    /// The node of these numbers, whether it keeps the rules or not.
+    #[inline]
+    pub const fn new(kind: u8, a: u16, b: u16) -> NodeRecord {
+        NodeRecord { kind, a, b }
+    }
 }
 
 /// A link as it stands in a table, as [`Table::links`] gives it.
@@ -325,7 +341,7 @@ impl Table {
 
     fn push(&mut self, kind: u8, a: u16, b: u16) -> Result<NodeId, TableError> {
         let id = NodeId(index(self.nodes.len(), Table::MAX_NODES).ok_or(TableError::TooManyNodes)?);
-        self.nodes.push(Entry { kind, a, b });
+        self.nodes.push(NodeRecord { kind, a, b });
         Ok(id)
     }
 
@@ -408,7 +424,7 @@ impl Table {
 
     /// A node, if there is one of this id.
     pub fn node(&self, id: NodeId) -> Option<Node<'_>> {
-        let Entry { kind, a, b } = *self.nodes.get(id.index())?;
+        let NodeRecord { kind, a, b } = *self.nodes.get(id.index())?;
         let (a, b) = (a as usize, b as usize);
         let links = || &self.links[a..a + b];
         let target = |k: usize| NodeId(self.links[a + k].target);
@@ -515,13 +531,61 @@ impl Table {
     /// # Ok::<(), Box<dyn std::error::Error>>(())
     /// ```
     pub fn to_bytes(&self) -> Vec<u8> {
-        let entries = 6 * self.nodes.len() + 4 * self.links.len() + 4 * self.names.len();
-        let mut bytes = Vec::with_capacity(8 + entries + self.text.len());
+        let nodes = 2 + 6 * self.nodes.len();
+        let mut bytes = Vec::with_capacity(nodes + self.rest_length());
         let mut put = |number: u16| bytes.extend(number.to_le_bytes());
         put(self.nodes.len() as u16);
-        for &Entry { kind, a, b } in &self.nodes {
+        for &NodeRecord { kind, a, b } in &self.nodes {
             [kind.into(), a, b].into_iter().for_each(&mut put);
         }
+        self.put_rest(&mut bytes);
+        bytes
+    }
+
+    /// The nodes as [`write_records`](crate::write_records) takes them, in order.
+    ///
+    /// [`nodes`](Self::nodes) says what they mean.
+    ///
+    /// ```
+    /// use shiulbart::{write_records_to_vec, NodeRecord, Table};
+    ///
+    /// // an Array of blank 7
+    /// let mut table = Table::new();
+    /// let blank = table.push_blank(7)?;
+    /// table.push_array(blank)?;
+    /// assert_eq!(table.node_records(), [NodeRecord::new(10, 7, 0), NodeRecord::new(5, 0, 1)]);
+    ///
+    /// let encoding = write_records_to_vec(table.node_records(), &table.rest())?;
+    /// assert_eq!(encoding, table.encode()?);
+    /// # Ok::<(), Box<dyn std::error::Error>>(())
+    /// ```
+    #[inline]
+    pub fn node_records(&self) -> &[NodeRecord] {
+        &self.nodes
+    }
+
+    /// The table in bytes from the count of links on, as [`write_records`](crate::write_records) takes
+    /// it: at most 34,822.
+    ///
+    /// ```
+    /// use shiulbart::Table;
+    ///
+    /// let table = Table::decode(&[0x62])?;
+    /// assert_eq!(table.rest(), table.to_bytes()[2 + 6 * table.len()..]);
+    /// # Ok::<(), shiulbart::Refusal>(())
+    /// ```
+    pub fn rest(&self) -> Vec<u8> {
+        let mut bytes = Vec::with_capacity(self.rest_length());
+        self.put_rest(&mut bytes);
+        bytes
+    }
+
+    fn rest_length(&self) -> usize {
+        6 + 4 * self.links.len() + 4 * self.names.len() + self.text.len()
+    }
+
+    fn put_rest(&self, bytes: &mut Vec<u8>) {
+        let mut put = |number: u16| bytes.extend(number.to_le_bytes());
         put(self.links.len() as u16);
         for &Link { target, name } in &self.links {
             [target, name].into_iter().for_each(&mut put);
@@ -530,7 +594,6 @@ impl Table {
         self.names.iter().flatten().copied().for_each(&mut put);
         put(self.text.len() as u16);
         bytes.extend(&self.text);
-        bytes
     }
 
     /// Takes a table in bytes apart, whatever the bytes are. [`to_bytes`](Self::to_bytes) makes the
@@ -635,11 +698,7 @@ impl Table {
             Some(entries)
         };
         let [nodes, links, names, text] = [section(6)?, section(4)?, section(4)?, section(1)?];
-        let node = |entry: &[u8]| Entry {
-            kind: entry[0],
-            a: two(entry, 2),
-            b: two(entry, 4),
-        };
+        let node = |entry: &[u8]| NodeRecord::new(entry[0], two(entry, 2), two(entry, 4));
         let link = |entry: &[u8]| Link {
             target: two(entry, 0),
             name: two(entry, 2),

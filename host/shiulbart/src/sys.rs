@@ -2,6 +2,9 @@
 //! the header's rules for every argument that safe Rust can give it. All `unsafe` of this crate
 //! stands here.
 
+use crate::NodeRecord;
+use std::mem::{align_of, size_of};
+
 /// What a call answers: `shiulbart_answer` of the header.
 #[repr(C)]
 #[derive(Clone, Copy)]
@@ -36,6 +39,14 @@ extern "C" {
     fn shiulbart_write(
         table: *const u8,
         table_length: usize,
+        out: *mut u8,
+        out_length: usize,
+    ) -> Answer;
+    fn shiulbart_write_records(
+        nodes: *const NodeRecord,
+        node_count: usize,
+        rest: *const u8,
+        rest_length: usize,
         out: *mut u8,
         out_length: usize,
     ) -> Answer;
@@ -103,6 +114,25 @@ pub(crate) fn join(first: &[u8], second: &[u8], out: &mut [u8]) -> Answer {
 pub(crate) fn write(table: &[u8], out: &mut [u8]) -> Answer {
     // SAFETY: as in `fill`.
     unsafe { shiulbart_write(table.as_ptr(), table.len(), out.as_mut_ptr(), out.len()) }
+}
+
+/// `shiulbart_node` of the header: with `repr(C)` the fields are where C has them.
+const _: () = assert!(size_of::<NodeRecord>() == 6 && align_of::<NodeRecord>() == 2);
+
+#[inline]
+pub(crate) fn write_records(nodes: &[NodeRecord], rest: &[u8], out: &mut [u8]) -> Answer {
+    // SAFETY: as in `fill`. A slice of records is aligned for them, and the byte between their fields,
+    // which need not be set, is not looked at.
+    unsafe {
+        shiulbart_write_records(
+            nodes.as_ptr(),
+            nodes.len(),
+            rest.as_ptr(),
+            rest.len(),
+            out.as_mut_ptr(),
+            out.len(),
+        )
+    }
 }
 
 #[inline]

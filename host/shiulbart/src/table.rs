@@ -1,5 +1,5 @@
 use crate::fill::{to_vec, written};
-use crate::{sys, Refusal};
+use crate::{sys, NodeRecord, Refusal};
 
 /// The bytes of the longest encoding.
 const LONGEST: usize = 2048;
@@ -88,12 +88,77 @@ pub fn write(table: &[u8], out: &mut [u8]) -> Result<usize, Refusal> {
 /// # Ok::<(), shiulbart::Refusal>(())
 /// ```
 pub fn write_to_vec(table: &[u8]) -> Result<Vec<u8>, Refusal> {
-    // it is not asked for the length first: the checks of a large table can take long
+    encoding(|out| write(table, out))
+}
+
+/// The encoding that a call writes. It is not asked for the length first: the checks of a large table
+/// can take long.
+fn encoding(call: impl FnOnce(&mut [u8]) -> Result<usize, Refusal>) -> Result<Vec<u8>, Refusal> {
     let mut answer = vec![0; LONGEST];
-    let length = write(table, &mut answer)?;
+    let length = call(&mut answer)?;
     answer.truncate(length);
     answer.shrink_to_fit();
     Ok(answer)
+}
+
+/// As [`write`](write()), of a table whose nodes are records.
+///
+/// `nodes` are its nodes, and `rest` is the rest of it in bytes, from the count of links on. So an
+/// editor that keeps its nodes as [`NodeRecord`]s need not make bytes of them. [`Table`](crate::Table)
+/// is one: it lends its [records](crate::Table::node_records), and makes the
+/// [rest](crate::Table::rest).
+///
+/// The answer and `out` are those of [`write`](write()) on the same table in bytes: the count of nodes,
+/// each node with its byte of 0, and the rest.
+///
+/// # Errors
+///
+/// As for [`write`](write()) on that table. A place in the rest is counted from the start of the table,
+/// and the rest starts at byte 2 + 6 x nodes. No nodes, or more than 6,144, are
+/// [9](crate::RefusalKind::SectionBroken) at 0, however many there are.
+///
+/// # Examples
+///
+/// ```
+/// use shiulbart::{write_records, NodeRecord};
+///
+/// // node 0 is a Bool, node 1 an Array with link 0, whose target is node 0
+/// let nodes = [NodeRecord::new(2, 0, 0), NodeRecord::new(5, 0, 1)];
+/// let rest = [1, 0, 0, 0, 0, 0, 0, 0, 0, 0];
+/// let mut out = [0xFF; 3];
+/// assert_eq!(write_records(&nodes, &rest, &mut out)?, 1);
+/// assert_eq!(out, [0x62, 0xFF, 0xFF]);
+///
+/// // the rest starts at byte 14 of the table, and the count of names, at byte 20, is missing
+/// let refusal = write_records(&nodes, &rest[..6], &mut out).unwrap_err();
+/// assert_eq!((refusal.number(), refusal.place()), (9, 20));
+/// # Ok::<(), shiulbart::Refusal>(())
+/// ```
+#[inline]
+pub fn write_records(nodes: &[NodeRecord], rest: &[u8], out: &mut [u8]) -> Result<usize, Refusal> {
+    written(sys::write_records(nodes, rest, out))
+}
+
+/// As [`write_records`], into a `Vec` of the encoding's length.
+///
+/// # Errors
+///
+/// As for [`write_records`], but for 12.
+///
+/// # Examples
+///
+/// ```
+/// use shiulbart::{write_records_to_vec, NodeRecord};
+///
+/// // blank 7: one node, and three sections of nothing
+/// assert_eq!(write_records_to_vec(&[NodeRecord::new(10, 7, 0)], &[0; 6])?, [7]);
+///
+/// let refusal = write_records_to_vec(&[], &[0; 6]).unwrap_err();
+/// assert_eq!(refusal.to_string(), "table section broken at byte 0");
+/// # Ok::<(), shiulbart::Refusal>(())
+/// ```
+pub fn write_records_to_vec(nodes: &[NodeRecord], rest: &[u8]) -> Result<Vec<u8>, Refusal> {
+    encoding(|out| write_records(nodes, rest, out))
 }
 
 /// The node table of an encoded shape, in the form that [`write`](write()) takes.

@@ -1,9 +1,9 @@
 //! Node tables through the safe crate: the bench card, the sizes at their limits, every refusal, every
-//! byte of the lent buffer, and tables as Rust values.
+//! byte of the lent buffer, nodes as records, and tables as Rust values.
 
 use shiulbart::{
-    read, table, table_to_vec, write, write_to_vec, Link, Node, NodeId, Primitive, Refusal,
-    RefusalKind, Table, TableError,
+    read, table, table_to_vec, write, write_records, write_records_to_vec, write_to_vec, Link,
+    Node, NodeId, NodeRecord, Primitive, Refusal, RefusalKind, Table, TableError,
 };
 use RefusalKind::*;
 
@@ -87,8 +87,42 @@ fn pattern(length: usize) -> Vec<u8> {
 
 type Call = fn(&[u8], &mut [u8]) -> Result<usize, Refusal>;
 type ToVec = fn(&[u8]) -> Result<Vec<u8>, Refusal>;
-const WRITE: (Call, ToVec) = (write, write_to_vec);
+const WRITE: (Call, ToVec) = (write_both_ways, write_both_ways_to_vec);
 const TABLE: (Call, ToVec) = (table, table_to_vec);
+
+/// The nodes of a table in bytes as records, and the rest of it: if all nodes are there, and have
+/// second bytes of 0.
+fn records(bytes: &[u8]) -> Option<(Vec<NodeRecord>, &[u8])> {
+    let two = |entry: &[u8], at: usize| u16::from_le_bytes([entry[at], entry[at + 1]]);
+    let count = two(bytes.get(..2)?, 0) as usize;
+    let nodes = bytes.get(2..2 + 6 * count)?.chunks_exact(6);
+    let record = |node: &[u8]| {
+        let record = NodeRecord::new(node[0], two(node, 2), two(node, 4));
+        (node[1] == 0).then_some(record)
+    };
+    let nodes: Option<Vec<NodeRecord>> = nodes.map(record).collect();
+    Some((nodes?, &bytes[2 + 6 * count..]))
+}
+
+/// `write`, and `write_records` where the nodes can be records: it says the same, and leaves the same
+/// buffer.
+fn write_both_ways(bytes: &[u8], out: &mut [u8]) -> Result<usize, Refusal> {
+    let mut other = out.to_vec();
+    let told = write(bytes, out);
+    if let Some((nodes, rest)) = records(bytes) {
+        assert_eq!(write_records(&nodes, rest, &mut other), told);
+        assert!(other == out, "another buffer, of {} bytes", out.len());
+    }
+    told
+}
+
+fn write_both_ways_to_vec(bytes: &[u8]) -> Result<Vec<u8>, Refusal> {
+    let told = write_to_vec(bytes);
+    if let Some((nodes, rest)) = records(bytes) {
+        assert_eq!(write_records_to_vec(&nodes, rest), told);
+    }
+    told
+}
 
 /// The answer, with buffers of each length that matters.
 #[track_caller]
@@ -672,6 +706,132 @@ fn many_threads_at_once() {
             });
         }
     });
+}
+
+// -------------------------------------------------------------------------------------------------
+// Nodes as records (and in every test of `write` above)
+
+/// Where C has the fields of `shiulbart_node`.
+#[test]
+fn a_record_in_memory() {
+    let nodes = [NodeRecord::new(1, 2, 3); 2];
+    let place = |field: *const u8| field as usize - nodes.as_ptr() as usize;
+    assert_eq!(std::mem::size_of_val(&nodes), 12);
+    assert_eq!(place(&nodes[1].kind), 6);
+    assert_eq!(place(&nodes[1].a as *const u16 as *const u8), 8);
+    assert_eq!(place(&nodes[1].b as *const u16 as *const u8), 10);
+    assert_eq!(NodeRecord::default(), NodeRecord::new(0, 0, 0));
+}
+
+#[test]
+fn m4_as_records() {
+    let nodes = [(0, 0, 0), (2, 0, 0), (5, 0, 1), (7, 1, 2)];
+    let nodes = nodes.map(|(kind, a, b)| NodeRecord::new(kind, a, b));
+    assert_eq!(records(&M4_TABLE), Some((nodes.to_vec(), &M4_TABLE[26..])));
+    assert_eq!(write_records_to_vec(&nodes, &M4_TABLE[26..]).unwrap(), M4);
+    // a part of more records, and of a longer buffer
+    let more = [&nodes[1..], &nodes, &nodes[..1]].concat();
+    let mut out = [0xEE; 12];
+    let told = write_records(&more[3..7], &M4_TABLE[26..], &mut out[1..11]);
+    assert_eq!(told, Ok(10));
+    assert_eq!(out[1..11], M4);
+    assert_eq!((out[0], out[11]), (0xEE, 0xEE));
+}
+
+/// No records, and too many: 9 at 0, whatever the rest is and however many there are.
+#[test]
+fn how_many_records() {
+    let rest_of_int = [0; 6];
+    let int = NodeRecord::default();
+    for count in [1, 2, 6143, 6144] {
+        assert_eq!(
+            write_records_to_vec(&vec![int; count], &rest_of_int).unwrap(),
+            [0x20]
+        );
+    }
+    let broken = NodeRecord::new(11, 0, 0);
+    let over = [6145, 6146, 65_535, 65_536, 65_537, 65_538, 131_073];
+    for count in [0].into_iter().chain(over) {
+        for node in [int, broken] {
+            for rest in [&rest_of_int[..], &[], &[1, 0], &[0; 7], &M4_TABLE[26..]] {
+                let mut out = pattern(40);
+                let told = write_records(&vec![node; count], rest, &mut out);
+                assert_eq!(told, Err(Refusal::new(SectionBroken, 0)), "{count}");
+                assert!(out == pattern(40), "changed by a refusal");
+            }
+        }
+    }
+}
+
+/// 65,536 records more than M4's four, which stand at the front or at the end: nothing wraps.
+#[test]
+fn more_records_than_two_bytes_count() {
+    let (m4, rest) = records(&M4_TABLE).unwrap();
+    let many = vec![NodeRecord::default(); 65_536];
+    for nodes in [[&m4[..], &many].concat(), [&many[..], &m4].concat()] {
+        let told = write_records_to_vec(&nodes, rest);
+        assert_eq!(told, Err(Refusal::new(SectionBroken, 0)));
+    }
+}
+
+/// The rest cut at each place, and with more behind it: the place is that of the whole table.
+#[test]
+fn places_in_the_rest() {
+    let (nodes, rest) = records(&M4_TABLE).unwrap();
+    for cut in 0..rest.len() {
+        let count = [26, 40, 50].into_iter().rfind(|count| *count <= 26 + cut);
+        let told = write_records_to_vec(&nodes, &rest[..cut]);
+        assert_eq!(
+            told,
+            Err(Refusal::new(SectionBroken, count.unwrap() as u32))
+        );
+        assert_eq!(told, write_to_vec(&M4_TABLE[..26 + cut]));
+    }
+    for more in [1, 2, 100_000] {
+        let more = [rest, &vec![0; more]].concat();
+        let told = write_records_to_vec(&nodes, &more);
+        assert_eq!(told, Err(Refusal::new(SectionBroken, 54)));
+    }
+    // as far behind as can be: no place is cut to two bytes
+    let int = NodeRecord::default();
+    let most = Raw {
+        nodes: vec![],
+        links: vec![(9, 9); 6144],
+        names: vec![(0, 2048); 2048],
+        text: vec![b'x'; 2048],
+    };
+    let rest = [&most.bytes()[2..], &[0]].concat();
+    let told = write_records_to_vec(&vec![int; 6144], &rest);
+    assert_eq!(told, Err(Refusal::new(SectionBroken, 71_688)));
+}
+
+/// A table lends its nodes, and makes the rest.
+#[test]
+fn lent_by_a_table() {
+    let mut table = Table::decode(&M4).unwrap();
+    let (nodes, rest) = records(&M4_TABLE).unwrap();
+    assert_eq!(
+        (table.node_records(), &table.rest()[..]),
+        (&nodes[..], rest)
+    );
+    let again = |table: &Table| write_records_to_vec(table.node_records(), &table.rest());
+    assert_eq!(again(&table).unwrap(), M4);
+    // with what is not used, refused, and of nothing
+    table.push_symbol(["\u{E9}", ""]).unwrap();
+    table.push_map(id(3), id(3)).unwrap();
+    assert_eq!(again(&table), table.encode());
+    assert_eq!(records(&table.to_bytes()).unwrap().1, table.rest());
+    for _ in 0..16 {
+        table.push_array(table.root().unwrap()).unwrap();
+    }
+    assert_eq!(again(&table), Err(Refusal::new(MadeTooDeep, 0)));
+    let none = Table::new();
+    assert_eq!(
+        (none.node_records(), &none.rest()[..]),
+        (&[][..], &[0; 6][..])
+    );
+    assert_eq!(again(&none), Err(Refusal::new(SectionBroken, 0)));
+    assert_eq!(again(&none), none.encode());
 }
 
 // -------------------------------------------------------------------------------------------------

@@ -3,16 +3,16 @@
 
 use compare::cases::sheets::{equal, symbol_of, Sheet};
 use compare::cases::table::{
-    chain, doubled, kind, largest, letters, m4_table, records, Node, Table,
+    chain, doubled, kind, largest, letters, m4_table, records, Node, RecordTable, Table,
 };
 use compare::cases::{function, leb128, long, nested, record, symbol, typical};
-use compare::question::{Pair, Question, Single};
+use compare::question::{Pair, Question, Records, Single};
 use compare::random::Random;
 use compare::stack::{
-    peak, worst_for_fill, worst_for_join, worst_for_parts, worst_for_read, worst_for_sheet,
-    worst_for_table, worst_for_write, worst_ks, Worst, LONGEST,
+    peak, worst_for_fill, worst_for_join, worst_for_parts, worst_for_read, worst_for_records,
+    worst_for_sheet, worst_for_table, worst_for_write, worst_ks, Worst, LONGEST,
 };
-use compare::{child, fast, fill, join, name, read, sheet, table, write, Parts};
+use compare::{child, fast, fill, join, name, read, sheet, table, write, write_records, Parts};
 use std::fmt::Display;
 use std::hint::black_box;
 use std::time::{Duration, Instant};
@@ -26,11 +26,14 @@ const LONG: Duration = Duration::from_secs(10);
 const ROUND_BYTES: usize = 100_000;
 const ROUND_TIMES: usize = 2000;
 
-/// What a call is given: bytes and k where it asks for a part, or two inputs.
+/// What a call is given: bytes and k where it asks for a part, or two inputs, or a table in bytes and as
+/// records.
+#[derive(Default)]
 struct Input {
     first: Vec<u8>,
     second: Vec<u8>,
     k: u64,
+    records: RecordTable,
 }
 
 impl Input {
@@ -57,7 +60,7 @@ fn two(name: &str, first: &[u8], second: &[u8]) -> Case {
         inputs: vec![Input {
             first: first.to_vec(),
             second: second.to_vec(),
-            k: 0,
+            ..Input::default()
         }],
     }
 }
@@ -72,8 +75,8 @@ fn three(name: &str, bytes: &[u8], parts: u64) -> impl Iterator<Item = Case> {
 fn many(name: &str, inputs: Vec<Vec<u8>>, k: u64) -> Case {
     let input = |first| Input {
         first,
-        second: Vec::new(),
         k,
+        ..Input::default()
     };
     Case {
         name: name.to_string(),
@@ -293,7 +296,7 @@ fn cases_for_fill() -> Vec<Case> {
     let typical = |(i, template): (usize, Vec<u8>)| Input {
         first: template,
         second: sheet_from(0, &short[..1 + i % 32]),
-        k: 0,
+        ..Input::default()
     };
     vec![
         two(
@@ -384,7 +387,7 @@ fn cases_for_join() -> Vec<Case> {
     let pairs = typical.chunks(2).map(|pair| Input {
         first: pair[0].clone(),
         second: pair[1].clone(),
-        k: 0,
+        ..Input::default()
     });
     let wide = function(500, &[0x00; 500], &[0x20]);
     let deep = nested(15, &[0x00], |inner| long(0x40, inner));
@@ -550,6 +553,15 @@ fn cases_for_write() -> Vec<Case> {
     ]
 }
 
+/// Those of `write`, with their nodes as records too.
+fn cases_for_records() -> Vec<Case> {
+    let mut cases = cases_for_write();
+    for input in cases.iter_mut().flat_map(|case| &mut case.inputs) {
+        input.records = RecordTable::of(&input.first).expect("its nodes can be records");
+    }
+    cases
+}
+
 fn cases_for_table() -> Vec<Case> {
     let one = |name, bytes: Vec<u8>| one(name, &bytes, 0);
     let wide = function(2040, &[0x05; 2040], &[0x20]);
@@ -667,6 +679,18 @@ fn rust_write(input: &Input, out: &mut [u8]) -> bool {
 }
 
 #[inline(never)]
+fn proved_records(input: &Input, out: &mut [u8]) -> bool {
+    let RecordTable { nodes, rest } = &input.records;
+    black_box(shiulbart::write_records(nodes, rest, out)).is_ok()
+}
+
+#[inline(never)]
+fn rust_records(input: &Input, out: &mut [u8]) -> bool {
+    let RecordTable { nodes, rest } = &input.records;
+    black_box(fast::write::write_records(nodes, rest, out)).is_ok()
+}
+
+#[inline(never)]
 fn proved_table(input: &Input, out: &mut [u8]) -> bool {
     black_box(shiulbart::table(&input.first, out)).is_ok()
 }
@@ -706,29 +730,43 @@ fn least(programs: &[Program], inputs: &[Input]) -> Vec<f64> {
     least
 }
 
-/// A table of a call's times, after a look that the programs agree.
-fn times(call: &str, programs: [Program; 2], cases: Vec<Case>, agree: impl Fn(&Input) -> bool) {
+/// What a call is measured beside: the same work in Rust.
+const RUST: &str = "Rust";
+
+/// A table of a call's times, after a look that the programs agree. Each program but the proved call, the
+/// first, has its ratio.
+fn times(
+    call: &str,
+    proved: Program,
+    others: &[(&str, Program)],
+    cases: Vec<Case>,
+    agree: impl Fn(&Input) -> bool,
+) {
+    let column = |(name, _): &(&str, Program)| format!(" {name}: ns a call | a byte | ratio |");
+    let columns: String = others.iter().map(column).collect();
+    println!("\n| `{call}` | bytes | proved: ns a call | a byte |{columns}");
     println!(
-        "\n| `{call}` | bytes | proved: ns a call | a byte | Rust: ns a call | a byte | ratio |"
+        "|---|---:|---:|---:|{}",
+        "---:|---:|---:|".repeat(others.len())
     );
-    println!("|---|---:|---:|---:|---:|---:|---:|");
+    let programs: Vec<Program> = [proved]
+        .into_iter()
+        .chain(others.iter().map(|other| other.1))
+        .collect();
     for case in cases {
         for input in &case.inputs {
             assert!(agree(input), "{call}: {}", case.name);
         }
         let bytes: usize = case.inputs.iter().map(Input::bytes).sum();
         let taken = least(&programs, &case.inputs);
-        let each = taken.iter().map(|ns| {
+        let each = |ns: f64| {
             let (call, byte) = (ns / case.inputs.len() as f64, ns / bytes as f64);
             format!("{call:.1} | {byte:.3}")
-        });
-        let each: Vec<String> = each.collect();
-        let ratio = taken[0] / taken[1];
-        println!(
-            "| {} | {bytes} | {} | {ratio:.2} |",
-            case.name,
-            each.join(" | ")
-        );
+        };
+        let proved = taken[0];
+        let other = |ns: &f64| format!(" {} | {:.2} |", each(*ns), proved / ns);
+        let others: String = taken[1..].iter().map(other).collect();
+        println!("| {} | {bytes} | {} |{others}", case.name, each(proved));
     }
 }
 
@@ -739,17 +777,36 @@ fn stack_head(call: &str) {
 }
 
 /// The peak stack of both programs on an input.
-fn stacks(programs: [Program; 2], first: &[u8], second: &[u8], k: u64) -> [usize; 2] {
-    let (first, second) = (first.to_vec(), second.to_vec());
-    let input = Input { first, second, k };
-    programs.map(|program| peak(|out| _ = program(&input, out)))
+fn stacks(programs: [Program; 2], input: &Input) -> [usize; 2] {
+    programs.map(|program| peak(|out| _ = program(input, out)))
 }
 
 /// A table of the peak stack of a call on its worst inputs.
 fn stack(call: &str, worst: Vec<(impl Display, Vec<u8>)>, programs: [Program; 2]) {
     stack_head(call);
-    for (name, bytes) in worst {
-        let [a, b] = stacks(programs, &bytes, &[], 0);
+    for (name, first) in worst {
+        let [a, b] = stacks(
+            programs,
+            &Input {
+                first,
+                ..Input::default()
+            },
+        );
+        println!("| {name} | {a} | {b} |");
+    }
+}
+
+/// A table of the peak stack of `write_records`.
+fn stack_of_records(programs: [Program; 2]) {
+    stack_head("write_records");
+    for (name, records) in worst_for_records() {
+        let [a, b] = stacks(
+            programs,
+            &Input {
+                records,
+                ..Input::default()
+            },
+        );
         println!("| {name} | {a} | {b} |");
     }
 }
@@ -759,7 +816,7 @@ fn stack_of_parts(call: &str, proved: Parts, programs: [Program; 2]) {
     stack_head(call);
     for (name, bytes) in worst_for_parts() {
         let ks = worst_ks(proved, &bytes);
-        let [[a, b], [c, d]] = ks.map(|k| stacks(programs, &bytes, &[], k));
+        let [[a, b], [c, d]] = ks.map(|k| stacks(programs, &one("", &bytes, k).inputs[0]));
         println!("| {name} | {} | {} |", a.max(c), b.max(d));
     }
 }
@@ -769,7 +826,7 @@ fn stack_of_pairs(call: &str, worst: Vec<Worst>, programs: [Program; 2]) {
     const SHOWN: usize = 12;
     let taken = worst
         .into_iter()
-        .map(|(name, first, second)| (stacks(programs, &first, &second, 0), name));
+        .map(|(name, first, second)| (stacks(programs, &two("", &first, &second).inputs[0]), name));
     let mut taken: Vec<([usize; 2], String)> = taken.collect();
     taken.sort_by_key(|([proved, _], _)| std::cmp::Reverse(*proved));
     stack_head(call);
@@ -818,31 +875,36 @@ fn main() {
     }
     times(
         "read",
-        [proved_read, rust_read],
+        proved_read,
+        &[(RUST, rust_read)],
         cases_for_read(),
         |input| read::proved(&input.first) == read::fast::<0>(&input.first),
     );
     times(
         "child",
-        [proved_child, rust_child],
+        proved_child,
+        &[(RUST, rust_child)],
         cases_for_child(),
         |input| child::proved(&input.first, input.k) == child::fast(&input.first, input.k),
     );
     times(
         "name",
-        [proved_name, rust_name],
+        proved_name,
+        &[(RUST, rust_name)],
         cases_for_name(),
         |input| name::proved(&input.first, input.k) == name::fast(&input.first, input.k),
     );
     times(
         "sheet",
-        [proved_sheet, rust_sheet],
+        proved_sheet,
+        &[(RUST, rust_sheet)],
         cases_for_sheet(),
         |input| sheet::proved(&input.first) == sheet::fast::<0>(&input.first),
     );
     times(
         "fill",
-        [proved_fill, rust_fill],
+        proved_fill,
+        &[(RUST, rust_fill)],
         cases_for_fill(),
         |input| {
             let pair = Pair::new(input.first.clone(), input.second.clone(), fill::whole);
@@ -851,7 +913,8 @@ fn main() {
     );
     times(
         "join",
-        [proved_join, rust_join],
+        proved_join,
+        &[(RUST, rust_join)],
         cases_for_join(),
         |input| {
             let pair = Pair::new(input.first.clone(), input.second.clone(), join::whole);
@@ -860,7 +923,8 @@ fn main() {
     );
     times(
         "write",
-        [proved_write, rust_write],
+        proved_write,
+        &[(RUST, rust_write)],
         cases_for_write(),
         |input| {
             let single = Single::new(input.first.clone(), write::whole);
@@ -868,8 +932,21 @@ fn main() {
         },
     );
     times(
+        "write_records",
+        proved_records,
+        &[("`write`", proved_write), (RUST, rust_records)],
+        cases_for_records(),
+        |input| {
+            let single = Single::new(input.first.clone(), write::whole);
+            let records = Records::new(input.records.clone(), write_records::whole);
+            let said = records.ask(write_records::proved);
+            said == records.ask(write_records::fast) && said == single.ask(write::proved)
+        },
+    );
+    times(
         "table",
-        [proved_table, rust_table],
+        proved_table,
+        &[(RUST, rust_table)],
         cases_for_table(),
         |input| {
             let single = Single::new(input.first.clone(), table::whole);
@@ -895,5 +972,6 @@ fn main() {
     stack_of_pairs("fill", worst_for_fill(), [proved_fill, rust_fill]);
     stack_of_pairs("join", worst_for_join(), [proved_join, rust_join]);
     stack("write", worst_for_write(), [proved_write, rust_write]);
+    stack_of_records([proved_records, rust_records]);
     stack("table", worst_for_table(), [proved_table, rust_table]);
 }

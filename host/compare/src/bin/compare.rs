@@ -2,16 +2,19 @@
 
 use compare::cases::fills::{Chains, FillInputs, JoinInputs};
 use compare::cases::sheets::SheetInputs;
-use compare::cases::tables::{EncodingInputs, WriteInputs};
+use compare::cases::table::RecordTable;
+use compare::cases::tables::records::{always_records, RecordInputs};
+use compare::cases::tables::{always_write, EncodingInputs, WriteInputs};
 use compare::cases::{any_k, Inputs, PartInputs};
 use compare::fast::sheet::{check, Rule};
 use compare::fast::write as fast_write;
-use compare::question::{Bytes, Pair, Part, Question, Single};
+use compare::question::{AllLent, Bytes, Pair, Part, Question, Records, Single};
 use compare::random::Random;
 use compare::read::{self, WRONG};
 use compare::shrink::{shrink, shrink_sheet, shrink_table};
 use compare::{
-    cases, child, fill, hex, join, name, sheet, table, write, Outcome, Parts, Whole, WholeOf,
+    cases, child, fill, hex, join, name, sheet, table, write, write_records, Outcome, Parts, Whole,
+    WholeOf,
 };
 use std::process::ExitCode;
 use std::time::{Duration, Instant};
@@ -39,7 +42,8 @@ const WRONG_FILL: usize = WRONG_SHEET + sheet::WRONG.len();
 const WRONG_JOIN: usize = WRONG_FILL + fill::WRONG.len();
 const WRONG_WRITE: usize = WRONG_JOIN + join::WRONG.len();
 const WRONG_TABLE: usize = WRONG_WRITE + write::WRONG.len();
-const ALL_WRONG: usize = WRONG_TABLE + table::WRONG.len();
+const WRONG_RECORDS: usize = WRONG_TABLE + table::WRONG.len();
+const ALL_WRONG: usize = WRONG_RECORDS + write_records::WRONG.len();
 
 /// The numbers that a refusal of each call can carry.
 const READ_NUMBERS: [usize; 8] = [1, 2, 3, 4, 5, 6, 7, 8];
@@ -49,6 +53,9 @@ const FILL_NUMBERS: [usize; 12] = [1, 2, 3, 4, 5, 6, 7, 8, 12, 13, 15, 16];
 const JOIN_NUMBERS: [usize; 6] = [12, 13, 14, 15, 16, 17];
 const WRITE_NUMBERS: [usize; 6] = [9, 10, 11, 12, 15, 16];
 const TABLE_NUMBERS: [usize; 9] = [1, 2, 3, 4, 5, 6, 7, 8, 12];
+
+/// The rules that a table can break, as the fast writer names them.
+const RULES: usize = fast_write::Rule::ALL.len();
 
 /// What the gate's cases, or more, must hold for the comparison to mean something.
 const LEAST_OF_A_NUMBER: usize = 100;
@@ -203,7 +210,8 @@ impl Progress {
 struct Call<Q: Question> {
     name: &'static str,
     proved: Q::Program,
-    fast: Q::Program,
+    /// other programs that must say the same
+    others: &'static [(&'static str, Q::Program)],
     model: fn(&Q) -> Q::Said,
     wrong: &'static [(&'static str, Q::Program)],
     /// the wrong models of other calls that come before
@@ -235,7 +243,7 @@ fn compare<Q: Question>(
     };
     let instead = options.instead(call.wrong, call.wrong_before);
     let proved = instead.unwrap_or(call.proved);
-    let others = [("proved", proved), ("fast", call.fast)];
+    let programs = [&[("proved", proved)], call.others].concat();
     let mut told_apart = vec![None; call.wrong.len()];
     let mut tally = Tally::default();
     let mut sorts: Vec<(String, usize)> = call.sorts.iter().map(|sort| (sort.clone(), 0)).collect();
@@ -253,7 +261,7 @@ fn compare<Q: Question>(
             sorts[sort].1 += 1;
         }
         let mut same = true;
-        for (name, other) in others {
+        for &(name, other) in &programs {
             let said = question.ask(other);
             if said == right {
                 continue;
@@ -348,7 +356,7 @@ fn compare_read(options: &Options, count: &mut Count) {
     let call = Call::<Bytes> {
         name: "read",
         proved: read::proved,
-        fast: read::fast::<0>,
+        others: &[("fast", read::fast::<0>)],
         model: |bytes| read::model(&bytes.0),
         wrong: &WRONG,
         wrong_before: 0,
@@ -369,7 +377,7 @@ fn compare_sheet(options: &Options, count: &mut Count) {
     let call = Call::<Bytes> {
         name: "sheet",
         proved: sheet::proved,
-        fast: sheet::fast::<0>,
+        others: &[("fast", sheet::fast::<0>)],
         model: |bytes| sheet::model(&bytes.0),
         wrong: &sheet::WRONG,
         wrong_before: WRONG_SHEET,
@@ -421,7 +429,7 @@ fn compare_child(options: &Options, count: &mut Count) {
     let call = Call::<Part> {
         name: "child",
         proved: child::proved,
-        fast: child::fast,
+        others: &[("fast", child::fast)],
         model: |part| part.ask(child::model),
         wrong: &child::WRONG,
         wrong_before: WRONG_CHILD,
@@ -440,7 +448,7 @@ fn compare_name(options: &Options, count: &mut Count) {
     let call = Call::<Part> {
         name: "name",
         proved: name::proved,
-        fast: name::fast,
+        others: &[("fast", name::fast)],
         model: |part| part.ask(name::model),
         wrong: &name::WRONG,
         wrong_before: WRONG_NAME,
@@ -473,7 +481,7 @@ fn compare_fill(options: &Options, count: &mut Count) {
     let call = Call::<Pair> {
         name: "fill",
         proved: fill::proved,
-        fast: fill::fast::<0>,
+        others: &[("fast", fill::fast::<0>)],
         model: Pair::right,
         wrong: &fill::WRONG,
         wrong_before: WRONG_FILL,
@@ -500,7 +508,7 @@ fn compare_join(options: &Options, count: &mut Count) {
     let call = Call::<Pair> {
         name: "join",
         proved: join::proved,
-        fast: join::fast::<0>,
+        others: &[("fast", join::fast::<0>)],
         model: Pair::right,
         wrong: &join::WRONG,
         wrong_before: WRONG_JOIN,
@@ -539,13 +547,12 @@ fn compare_singles(
 }
 
 fn compare_write(options: &Options, count: &mut Count) {
-    const RULES: usize = fast_write::Rule::ALL.len();
     let mut sorts: Vec<String> = fast_write::Rule::ALL.map(String::from).into();
     sorts.extend(["answered: as the way back makes it", "answered: another"].map(String::from));
     let call = Call::<Single> {
         name: "write",
         proved: write::proved,
-        fast: write::fast,
+        others: &[("fast", write::fast)],
         model: Single::right,
         wrong: &write::WRONG,
         wrong_before: WRONG_WRITE,
@@ -569,7 +576,7 @@ fn compare_write(options: &Options, count: &mut Count) {
         every_sort: true,
     };
     let generated = WriteInputs::new(options.seed);
-    let fixed = cases::tables::always_write();
+    let fixed = always_write();
     compare_singles(&call, write::whole, fixed, generated, options, count);
 }
 
@@ -577,7 +584,7 @@ fn compare_table(options: &Options, count: &mut Count) {
     let call = Call::<Single> {
         name: "table",
         proved: table::proved,
-        fast: table::fast,
+        others: &[("fast", table::fast)],
         model: Single::right,
         wrong: &table::WRONG,
         wrong_before: WRONG_TABLE,
@@ -603,6 +610,67 @@ fn compare_table(options: &Options, count: &mut Count) {
     let generated = EncodingInputs::new(options.seed);
     let fixed = cases::tables::always_table();
     compare_singles(&call, table::whole, fixed, generated, options, count);
+}
+
+/// The sorts of records: the rules that a table can break, but for the second byte, which they have not.
+/// How many they are stands for the three rules of the first section: they are always there.
+fn sorts_of_records() -> Vec<String> {
+    let mut sorts = fast_write::Rule::ALL.to_vec();
+    sorts.remove(SECOND_BYTE);
+    sorts.splice(..3, ["no records", "6,145 to 65,535", "65,536 and more"]);
+    sorts.extend([
+        "answered: one record",
+        "answered: 2 to 6,143",
+        "answered: 6,144",
+    ]);
+    sorts.into_iter().map(String::from).collect()
+}
+
+const SECOND_BYTE: usize = fast_write::Rule::SecondByte as usize;
+
+fn sort_of_records(records: &Records, _: &AllLent) -> Option<usize> {
+    let RecordTable { nodes, rest } = &records.table;
+    let count = nodes.len();
+    match fast_write::check_records(nodes, rest) {
+        Err(broken) => Some(match broken.rule as usize {
+            0..=2 => (count > 0) as usize + (count > 65_535) as usize,
+            rule => rule - (rule > SECOND_BYTE) as usize,
+        }),
+        Ok(()) if records.whole.is_ok() => {
+            Some(RULES - 1 + (count > 1) as usize + (count == 6144) as usize)
+        }
+        Ok(()) => None,
+    }
+}
+
+/// Compares `write_records` on every input of `write` that has its form, and on others; with `write`, too.
+fn compare_records(options: &Options, count: &mut Count) {
+    let own = always_records();
+    let call = Call::<Records> {
+        name: "write_records",
+        proved: write_records::proved,
+        others: &[
+            ("fast", write_records::fast),
+            ("the proved write, in bytes,", write_records::in_bytes),
+        ],
+        model: Records::right,
+        wrong: &write_records::WRONG,
+        wrong_before: WRONG_RECORDS,
+        // as many generated ones as for `write`, or more
+        gate: TABLE_CASES + own.len(),
+        numbers: &WRITE_NUMBERS,
+        smallest: |records, differs| records.smallest(write_records::whole, differs),
+        head: ["9 to 11, as the fast writer sees it", "cases"],
+        sorts: sorts_of_records(),
+        sort: sort_of_records,
+        every_sort: true,
+    };
+    let records = |table| Records::new(table, write_records::whole);
+    let fixed = always_write();
+    let fixed = fixed.iter().filter_map(|bytes| RecordTable::of(bytes));
+    let fixed = fixed.chain(own).map(records).collect();
+    let generated = RecordInputs::new(options.seed).map(records);
+    compare(&call, fixed, generated, options, count);
 }
 
 /// What a proved call says that makes a `Vec`.
@@ -685,14 +753,20 @@ fn compare_chains(options: &Options, count: &mut Count) {
     laws.print("templates with three sheets", all, options);
 }
 
-/// What must hold of `write` and `table`, whatever they answer: the table of an encoding is written as
-/// that encoding; what a table is written as has a table that is written as the same; the table of an
-/// encoding, written and made again, is the same bytes; and a table that is taken apart and put together
-/// is what it was.
+/// What must hold of `write`, `write_records` and `table`, whatever they answer: the table of an encoding is
+/// written as that encoding; what a table is written as has a table that is written as the same; the table
+/// of an encoding, written and made again, is the same bytes; and a table that is taken apart and put
+/// together is what it was, and is written as the same where it lends its nodes.
 fn compare_tables(options: &Options, count: &mut Count) {
     let (write, table) = (shiulbart::write_to_vec, shiulbart::table_to_vec);
     let all = if options.gate { CHAINS } else { options.cases };
-    let laws = ["table, write", "write, back", "made again", "taken apart"];
+    let laws = [
+        "table, write",
+        "write, back",
+        "made again",
+        "taken apart",
+        "nodes lent",
+    ];
     let mut laws = Laws::new(laws, count);
     for encoding in EncodingInputs::new(options.seed.wrapping_add(3)).take(all) {
         if let Ok(own) = table(&encoding) {
@@ -707,12 +781,16 @@ fn compare_tables(options: &Options, count: &mut Count) {
             let again = table(encoding).and_then(|own| write(&own));
             laws.look(1, again, said.clone(), &on);
         }
-        let apart = shiulbart::Table::parse(&bytes).map(|table| table.to_bytes());
+        let apart = shiulbart::Table::parse(&bytes);
+        if let Ok(apart) = &apart {
+            let lent = shiulbart::write_records_to_vec(apart.node_records(), &apart.rest());
+            laws.look(4, lent, said.clone(), &on);
+        }
         let right = match said {
             Err(refusal) if (9..=11).contains(&refusal.number()) => Err(refusal),
             _ => Ok(bytes.clone()),
         };
-        laws.look(3, apart, right, &on);
+        laws.look(3, apart.map(|table| table.to_bytes()), right, &on);
     }
     laws.print("encodings and as many tables", all, options);
 }
@@ -731,6 +809,7 @@ fn main() -> ExitCode {
     compare_join(&options, &mut count);
     compare_write(&options, &mut count);
     compare_table(&options, &mut count);
+    compare_records(&options, &mut count);
     compare_chains(&options, &mut count);
     compare_tables(&options, &mut count);
     println!("{} passed, {} failed", count.passed, count.failed);

@@ -1,19 +1,21 @@
 //! The peak stack of each call on the stored worst inputs; fails if one takes more than it may, or if
 //! a board's whole job does.
 
+use compare::cases::table::RecordTable;
 use compare::stack::{
-    peak, worst_for_fill, worst_for_join, worst_for_parts, worst_for_read, worst_for_sheet,
-    worst_for_table, worst_for_write, worst_ks, Worst, BOARD, BUFFERS_OF_A, BUFFERS_OF_B, LONGEST,
-    MOST_FOR_ANOTHER, MOST_FOR_READ, MOST_FOR_TABLES, SHEET,
+    peak, worst_for_fill, worst_for_join, worst_for_parts, worst_for_read, worst_for_records,
+    worst_for_sheet, worst_for_table, worst_for_write, worst_ks, Worst, BOARD, BUFFERS_OF_A,
+    BUFFERS_OF_B, LONGEST, MOST_FOR_ANOTHER, MOST_FOR_READ, MOST_FOR_RECORDS, MOST_FOR_TABLES,
+    SHEET,
 };
-use compare::{child, fill, join, name, read, sheet, table, write, Lends, Makes, Outcome, Parts};
+use compare::{child, fill, join, name, read, sheet, table, write, write_records};
+use compare::{Lends, Outcome, Parts};
 use std::hint::black_box;
 use std::process::ExitCode;
 
 /// A call that is measured.
 type Call = fn(&[u8], u64);
 type LentCall = fn(&[u8], &[u8], &mut [u8]);
-type SingleCall = fn(&[u8], &mut [u8]);
 
 /// What passed and failed.
 #[derive(Default)]
@@ -28,7 +30,7 @@ impl Count {
         // 0 would say that the call was not seen at all
         let within = (1..=most).contains(&taken);
         let word = if within { "" } else { ", OVER" };
-        println!("{call:<5} {taken:>6} bytes{word}  {input} ({outcome})");
+        println!("{call:<13} {taken:>6} bytes{word}  {input} ({outcome})");
         self.add(within);
     }
 
@@ -61,19 +63,19 @@ fn lent(name: &str, proved: Lends, call: LentCall, worst: Vec<Worst>, count: &mu
     most
 }
 
-/// `write` or `table`.
-fn single(
-    name: &str,
-    proved: Makes,
-    call: SingleCall,
-    worst: Vec<(String, Vec<u8>)>,
+/// `write`, `write_records` or `table`, each asked what it says and, alone, measured.
+fn single<T: Sync>(
+    (name, most): (&str, usize),
+    proved: fn(&T, &mut [u8]) -> Outcome,
+    call: fn(&T, &mut [u8]),
+    worst: Vec<(String, T)>,
     count: &mut Count,
 ) {
     let mut out = vec![0; LONGEST];
-    for (input, bytes) in worst {
-        let outcome = proved(&bytes, &mut out);
-        let taken = peak(|out| call(&bytes, out));
-        count.of(name, taken, MOST_FOR_TABLES, &input, outcome);
+    for (input, own) in worst {
+        let outcome = proved(&own, &mut out);
+        let taken = peak(|out| call(&own, out));
+        count.of(name, taken, most, &input, outcome);
     }
 }
 
@@ -120,23 +122,31 @@ fn main() -> ExitCode {
     };
     let of_fill = lent("fill", fill::proved, of_fill, worst_for_fill(), &mut count);
     let of_join = lent("join", join::proved, of_join, worst_for_join(), &mut count);
-    let of_write: SingleCall = |table, out| {
-        let _ = black_box(shiulbart::write(black_box(table), out));
-    };
-    let of_table: SingleCall = |bytes, out| {
-        let _ = black_box(shiulbart::table(black_box(bytes), out));
-    };
     single(
-        "write",
-        write::proved,
-        of_write,
+        ("write", MOST_FOR_TABLES),
+        |table, out| write::proved(table, out),
+        |table: &Vec<u8>, out| {
+            let _ = black_box(shiulbart::write(black_box(table), out));
+        },
         worst_for_write(),
         &mut count,
     );
     single(
-        "table",
-        table::proved,
-        of_table,
+        ("write_records", MOST_FOR_RECORDS),
+        |table, out| write_records::proved(&table.nodes, &table.rest, out),
+        |table: &RecordTable, out| {
+            let RecordTable { nodes, rest } = black_box(table);
+            let _ = black_box(shiulbart::write_records(nodes, rest, out));
+        },
+        worst_for_records(),
+        &mut count,
+    );
+    single(
+        ("table", MOST_FOR_TABLES),
+        |bytes, out| table::proved(bytes, out),
+        |bytes: &Vec<u8>, out| {
+            let _ = black_box(shiulbart::table(black_box(bytes), out));
+        },
         worst_for_table(),
         &mut count,
     );

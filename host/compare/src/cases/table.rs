@@ -1,6 +1,7 @@
 //! Node tables to write: their parts need not fit one another. And tables that tests name.
 
 use super::MAX_BYTES;
+use shiulbart::NodeRecord;
 
 pub const MAX_NODES: usize = 6144;
 pub const MAX_LINKS: usize = 6144;
@@ -226,6 +227,50 @@ impl Table {
     pub fn extent(&self) -> (u64, u64) {
         self.extents().last().copied().unwrap_or((1, 1))
     }
+}
+
+// -------------------------------------------------------------------------------------------------
+// Nodes as records
+
+/// A table whose nodes are records: any number of them, without second bytes, and any bytes behind.
+#[derive(Clone, Debug, Default, PartialEq, Eq)]
+pub struct RecordTable {
+    pub nodes: Vec<NodeRecord>,
+    pub rest: Vec<u8>,
+}
+
+impl RecordTable {
+    /// The table of these bytes, if they hold the first section whole and all second bytes are 0.
+    pub fn of(bytes: &[u8]) -> Option<RecordTable> {
+        let number = |entry: &[u8], at: usize| u16::from_le_bytes([entry[at], entry[at + 1]]);
+        let count = number(bytes.get(..2)?, 0) as usize;
+        let nodes = bytes.get(2..2 + 6 * count)?.chunks_exact(6).map(|entry| {
+            let record = NodeRecord::new(entry[0], number(entry, 2), number(entry, 4));
+            (entry[1] == 0).then_some(record)
+        });
+        Some(RecordTable {
+            nodes: nodes.collect::<Option<_>>()?,
+            rest: bytes[2 + 6 * count..].to_vec(),
+        })
+    }
+
+    /// The same table in bytes, if two bytes can count its nodes.
+    pub fn bytes(&self) -> Option<Vec<u8>> {
+        in_bytes(&self.nodes, &self.rest)
+    }
+}
+
+/// The table of these nodes and this rest in bytes, if two bytes can count the nodes.
+pub fn in_bytes(nodes: &[NodeRecord], rest: &[u8]) -> Option<Vec<u8>> {
+    let count = u16::try_from(nodes.len()).ok()?;
+    let mut bytes = count.to_le_bytes().to_vec();
+    for node in nodes {
+        bytes.extend([node.kind, 0]);
+        bytes.extend(node.a.to_le_bytes());
+        bytes.extend(node.b.to_le_bytes());
+    }
+    bytes.extend(rest);
+    Some(bytes)
 }
 
 // -------------------------------------------------------------------------------------------------

@@ -3,9 +3,11 @@
 //! The sums stop at one over their limits, and no shared child is walked over twice. A second pass goes
 //! down from the root and writes straight into the lent buffer: as all lengths are known, each head is
 //! written before its payload. In both passes a list is one loop, and a child of one byte is taken
-//! without a call. Small tables have small arrays for what is noted, so that little is cleared.
+//! without a call. Small tables have small arrays for what is noted, so that little is cleared. Nodes that
+//! are lent as records are looked at where they are: none is copied.
 
 use super::{refused, well_formed, Refusal, MAX_BYTES, MAX_LEVELS};
+use shiulbart::NodeRecord;
 
 const BUFFER_SHORT: u32 = 12;
 const MADE_TOO_DEEP: u32 = 15;
@@ -125,8 +127,8 @@ fn leb_size(number: usize) -> usize {
 }
 
 /// The four sections, without their counts.
-struct Sections<'a> {
-    nodes: &'a [u8],
+struct Sections<'a, T> {
+    nodes: T,
     links: &'a [u8],
     names: &'a [u8],
     text: &'a [u8],
@@ -137,6 +139,59 @@ struct Node {
     second: u8,
     a: usize,
     b: usize,
+}
+
+/// The nodes of a table: bytes or records.
+trait Nodes: Copy {
+    fn count(self) -> usize;
+    fn node(self, index: usize) -> Node;
+    fn kind(self, index: usize) -> u8;
+}
+
+impl Nodes for &[u8] {
+    #[inline(always)]
+    fn count(self) -> usize {
+        self.len() / 6
+    }
+
+    #[inline(always)]
+    fn node(self, index: usize) -> Node {
+        let entry = &self[6 * index..6 * index + 6];
+        Node {
+            kind: entry[0],
+            second: entry[1],
+            a: number(entry, 2),
+            b: number(entry, 4),
+        }
+    }
+
+    #[inline(always)]
+    fn kind(self, index: usize) -> u8 {
+        self[6 * index]
+    }
+}
+
+impl Nodes for &[NodeRecord] {
+    #[inline(always)]
+    fn count(self) -> usize {
+        self.len()
+    }
+
+    #[inline(always)]
+    fn node(self, index: usize) -> Node {
+        let NodeRecord { kind, a, b } = self[index];
+        Node {
+            kind,
+            second: 0,
+            a: a.into(),
+            b: b.into(),
+        }
+    }
+
+    #[inline(always)]
+    fn kind(self, index: usize) -> u8 {
+        self[index].kind
+    }
 }
 
 /// The entries of the section whose count stands at a place, and the place after them.
@@ -163,10 +218,32 @@ fn section(
 }
 
 #[inline(always)]
-fn sections(table: &[u8]) -> Result<Sections<'_>, Broken> {
+fn sections(table: &[u8]) -> Result<Sections<'_, &[u8]>, Broken> {
     use Rule::*;
     let rules = [NoNodeCount, NodeCount, NodesCut];
     let (nodes, at) = section(table, 0, 6, [1, MAX_NODES], rules)?;
+    with_rest(nodes, table, at)
+}
+
+/// The places in the rest are those of the whole table.
+#[inline(always)]
+fn sections_of<'a>(
+    nodes: &'a [NodeRecord],
+    rest: &'a [u8],
+) -> Result<Sections<'a, &'a [NodeRecord]>, Broken> {
+    if !(1..=MAX_NODES).contains(&nodes.len()) {
+        return broken(Rule::NodeCount, 0);
+    }
+    with_rest(nodes, rest, 0).map_err(|Broken { rule, place }| Broken {
+        rule,
+        place: 2 + 6 * nodes.len() + place,
+    })
+}
+
+/// These nodes, and the other sections, of which the first stands at a place.
+#[inline(always)]
+fn with_rest<T>(nodes: T, table: &[u8], at: usize) -> Result<Sections<'_, T>, Broken> {
+    use Rule::*;
     let rules = [NoLinkCount, LinkCount, LinksCut];
     let (links, at) = section(table, at, 4, [0, MAX_LINKS], rules)?;
     let rules = [NoNameCount, NameCount, NamesCut];
@@ -184,23 +261,7 @@ fn sections(table: &[u8]) -> Result<Sections<'_>, Broken> {
     })
 }
 
-impl<'a> Sections<'a> {
-    #[inline(always)]
-    fn node(&self, index: usize) -> Node {
-        let entry = &self.nodes[6 * index..6 * index + 6];
-        Node {
-            kind: entry[0],
-            second: entry[1],
-            a: number(entry, 2),
-            b: number(entry, 4),
-        }
-    }
-
-    #[inline(always)]
-    fn kind(&self, index: usize) -> u8 {
-        self.nodes[6 * index]
-    }
-
+impl<'a, T: Nodes> Sections<'a, T> {
     /// Target and name of each link of a node.
     #[inline(always)]
     fn links_of(&self, node: &Node) -> impl Iterator<Item = (usize, usize)> + 'a {
@@ -246,16 +307,16 @@ impl<'a> Sections<'a> {
 }
 
 /// A sound table, and how long and deep the shape of each node is, up to one over each limit.
-struct Sound<'a, const N: usize> {
-    sections: Sections<'a>,
+struct Sound<'a, T, const N: usize> {
+    sections: Sections<'a, T>,
     lengths: [u16; N],
     depths: [u8; N],
 }
 
-impl<const N: usize> Sound<'_, N> {
+impl<T: Nodes, const N: usize> Sound<'_, T, N> {
     /// Checks all nodes, and notes the length and depth of each.
     fn note(&mut self) -> Result<(), Broken> {
-        for index in 0..self.sections.nodes.len() / 6 {
+        for index in 0..self.sections.nodes.count() {
             match self.extent(index) {
                 Ok((length, depth)) => {
                     self.lengths[index] = length.min(MAX_BYTES + 1) as u16;
@@ -272,7 +333,7 @@ impl<const N: usize> Sound<'_, N> {
     #[inline(always)]
     fn extent(&self, index: usize) -> Result<(usize, u8), Rule> {
         let sections = &self.sections;
-        let node = sections.node(index);
+        let node = sections.nodes.node(index);
         if node.second != 0 {
             return Err(Rule::SecondByte);
         }
@@ -342,7 +403,7 @@ impl<const N: usize> Sound<'_, N> {
                     }
                     length += self.lengths[target] as usize;
                     deepest = deepest.max(self.depths[target]);
-                    all_primitive = all_primitive && sections.kind(target) < ARRAY;
+                    all_primitive = all_primitive && sections.nodes.kind(target) < ARRAY;
                 }
                 if all_primitive {
                     return Ok((1, 2));
@@ -358,7 +419,7 @@ impl<const N: usize> Sound<'_, N> {
     /// Writes the shape of a node, and gives the place after it. One of a single byte needs no call.
     #[inline(always)]
     fn put(&self, index: usize, out: &mut [u8], to: usize) -> usize {
-        let node = self.sections.node(index);
+        let node = self.sections.nodes.node(index);
         match node.kind {
             0..=4 => out[to] = 32 + node.kind,
             BLANK if node.a < 32 => out[to] = node.a as u8,
@@ -369,13 +430,13 @@ impl<const N: usize> Sound<'_, N> {
 
     fn put_list(&self, index: usize, out: &mut [u8], to: usize) -> usize {
         let sections = &self.sections;
-        let node = sections.node(index);
+        let node = sections.nodes.node(index);
         let length = self.lengths[index];
         if length == 1 {
-            let first = sections.kind(sections.target(node.a));
+            let first = sections.nodes.kind(sections.target(node.a));
             out[to] = match node.kind {
                 ARRAY => 96 + first,
-                _ => 101 + 5 * first + sections.kind(sections.target(node.a + 1)),
+                _ => 101 + 5 * first + sections.nodes.kind(sections.target(node.a + 1)),
             };
             return to + 1;
         }
@@ -432,10 +493,15 @@ fn put_text(text: &[u8], out: &mut [u8], to: usize) -> usize {
 
 /// Checks a table, whatever the bytes are: its sections, nodes and names.
 pub fn check(table: &[u8]) -> Result<(), Broken> {
-    noted::<MAX_NODES>(sections(table)?).map(|_| ())
+    noted::<_, MAX_NODES>(sections(table)?).map(|_| ())
 }
 
-fn noted<const N: usize>(sections: Sections<'_>) -> Result<Sound<'_, N>, Broken> {
+/// As `check`, of a table whose nodes are records.
+pub fn check_records(nodes: &[NodeRecord], rest: &[u8]) -> Result<(), Broken> {
+    noted::<_, MAX_NODES>(sections_of(nodes, rest)?).map(|_| ())
+}
+
+fn noted<T: Nodes, const N: usize>(sections: Sections<'_, T>) -> Result<Sound<'_, T, N>, Broken> {
     let mut sound = Sound {
         sections,
         lengths: [0; N],
@@ -449,18 +515,30 @@ fn noted<const N: usize>(sections: Sections<'_>) -> Result<Sound<'_, N>, Broken>
 /// Writes the encoding of a table's root, whatever the bytes are. The answer is how many bytes of the
 /// buffer it takes.
 pub fn write(table: &[u8], out: &mut [u8]) -> Result<usize, Refusal> {
-    let sections = sections(table)?;
-    match sections.nodes.len() / 6 {
-        0..=32 => write_sound::<32>(sections, out),
-        33..=512 => write_sound::<512>(sections, out),
-        _ => write_sound::<MAX_NODES>(sections, out),
+    write_sections(sections(table)?, out)
+}
+
+/// As `write`, of a table whose nodes are records.
+pub fn write_records(nodes: &[NodeRecord], rest: &[u8], out: &mut [u8]) -> Result<usize, Refusal> {
+    write_sections(sections_of(nodes, rest)?, out)
+}
+
+#[inline(always)]
+fn write_sections<T: Nodes>(sections: Sections<'_, T>, out: &mut [u8]) -> Result<usize, Refusal> {
+    match sections.nodes.count() {
+        0..=32 => write_sound::<_, 32>(sections, out),
+        33..=512 => write_sound::<_, 512>(sections, out),
+        _ => write_sound::<_, MAX_NODES>(sections, out),
     }
 }
 
 #[inline(never)]
-fn write_sound<const N: usize>(sections: Sections<'_>, out: &mut [u8]) -> Result<usize, Refusal> {
-    let sound = noted::<N>(sections)?;
-    let root = sound.sections.nodes.len() / 6 - 1;
+fn write_sound<T: Nodes, const N: usize>(
+    sections: Sections<'_, T>,
+    out: &mut [u8],
+) -> Result<usize, Refusal> {
+    let sound = noted::<_, N>(sections)?;
+    let root = sound.sections.nodes.count() - 1;
     let needed = sound.lengths[root] as usize;
     if sound.depths[root] > MAX_LEVELS as u8 {
         return refused(MADE_TOO_DEEP, 0);
