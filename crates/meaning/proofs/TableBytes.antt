@@ -7,7 +7,6 @@
 --     table-refusal         a refusal has the number 9, 10 or 11, and a place no further on than the end, nor than longestTable
 --     table-length          how many bytes a table has
 --     longestTable          how many at the limits
---     table-at-most         so many at most
 --     table-bytes           a table is written as bytes
 -- Assumes nothing.
 use Prim.Native.Nat.{ℕ, zero, suc, _+_, _*_, _≤_, _<_, min}
@@ -72,10 +71,6 @@ table-length T = simp length-append (omega (arith, nodes-length (T .nodes), link
 -- how many bytes a table has whose nodes, links, names and text are at their limits
 abbrev pub longestTable : ℕ
 longestTable = tableSize maxNodes maxLinks maxNames maxText
-
--- A table within the limits is no longer.
-pub table-at-most : (T : Table) → TableWithin T → length (tableBytes T) ≤ longestTable
-table-at-most T h = omega (arith, table-length T, h .nodes-few, h .links-few, h .names-few, h .text-short)
 
 -- Nodes whose numbers fit are written as bytes.
 nodes-small : (ns : List Node) → NodesFit ns → Bytes (nodesBytes ns)
