@@ -28,16 +28,16 @@ use Rattle.sheets.specs.Index.{blankIn, Ready}
 use Rattle.sheets.proofs.Whole.{broken-is}
 use Rattle.sizes.specs.declared.Size.{Size}
 use Rattle.sizes.specs.Sizes.{sizeOf, MeasureIs}
-use Rattle.fills.specs.Accepted.{IsShape}
+use Rattle.fills.specs.Accepted.{IsAccepted}
 
 -- A template that the reader accepts is a shape.
-pub accepted : (r : Reading Shape) (l d : ℕ) → said r ≡ Accepted l d → IsShape r
+pub accepted : (r : Reading Shape) (l d : ℕ) → said r ≡ Accepted l d → IsAccepted r
 accepted (got t w) l d h = tt
 accepted (bad n p) l d h = let z : _≡_ {A = ℕ} 0 1 = cc in absurd (omega arith)
 
 -- An accepted template is no longer than an encoding may be.
-pub accepted-short : (s : List ℕ) → ((i : ℕ) → getD s i 0 < 256) → IsShape (reading s) → length s ≤ maxBytes
-accepted-short s b = by-reading (λ s r. IsShape r → length s ≤ maxBytes) s (bytes-by-index s b) (λ t w h _. h .short) (λ n q h. absurd h)
+pub accepted-short : (s : List ℕ) → ((i : ℕ) → getD s i 0 < 256) → IsAccepted (reading s) → length s ≤ maxBytes
+accepted-short s b = by-reading (λ s r. IsAccepted r → length s ≤ maxBytes) s (bytes-by-index s b) (λ t w h _. h .short) (λ n q h. absurd h)
 
 -- A template that the reader refuses is refused so, whatever the sheet is.
 pub answer-unread : (template sheet : List ℕ) (room n p : ℕ) → said (reading template) ≡ Refused n p → fillAnswer template sheet room ≡ refused n p
@@ -49,11 +49,11 @@ answer-unread template sheet room n p = go (reading template) refl
     go (bad m q) e h = rw e (let a : m ≡ n = cc in let b : q ≡ p = cc in rw (a, b))
 
 -- A sheet that the check refuses is refused with 13, after an accepted template.
-pub answer-broken : (template sheet : List ℕ) (room p : ℕ) → IsShape (reading template) → checked (readSheet sheetBroken sheet) ≡ Broken p → fillAnswer template sheet room ≡ refused sheetBroken p
+pub answer-broken : (template sheet : List ℕ) (room p : ℕ) → IsAccepted (reading template) → checked (readSheet sheetBroken sheet) ≡ Broken p → fillAnswer template sheet room ≡ refused sheetBroken p
 unfolding fillAnswer onto
 answer-broken template sheet room p h k = go (reading template) refl h
   where
-    go : (r : Reading Shape) → reading template ≡ r → IsShape r → fillAnswer template sheet room ≡ refused sheetBroken p
+    go : (r : Reading Shape) → reading template ≡ r → IsAccepted r → fillAnswer template sheet room ≡ refused sheetBroken p
     go (got t w) e h = rw (e, broken-is sheetBroken sheet p k)
     go (bad n m) e h = absurd h
 
@@ -64,10 +64,10 @@ pub record Found (template sheet : List ℕ) (r : Size) : Type 0 where
   pub is : reading template ≡ got t left
   pub size : r ≡ sizeOf (plug (blankIn sheet) t)
 
-pub found : (template sheet : List ℕ) (r : Size) → IsShape (reading template) → MeasureIs (blankIn sheet) (reading template) r → Found template sheet r
+pub found : (template sheet : List ℕ) (r : Size) → IsAccepted (reading template) → MeasureIs (blankIn sheet) (reading template) r → Found template sheet r
 found template sheet r = go (reading template) refl
   where
-    go : (q : Reading Shape) → reading template ≡ q → IsShape q → MeasureIs (blankIn sheet) q r → Found template sheet r
+    go : (q : Reading Shape) → reading template ≡ q → IsAccepted q → MeasureIs (blankIn sheet) q r → Found template sheet r
     go (got t w) e h m = record { t = t; left = w; is = e; size = m }
     go (bad n p) e h m = absurd h
 

@@ -3,6 +3,6 @@ use Rattle.meaning.specs.Shape.{Shape}
 use Rattle.meaning.specs.Reading.{Reading, got, bad}
 
 -- the template is accepted
-abbrev pub IsShape : Reading Shape → Type 0
-IsShape (got t w) = Unit {0}
-IsShape (bad number place) = ⊥
+abbrev pub IsAccepted : Reading Shape → Type 0
+IsAccepted (got t w) = Unit {0}
+IsAccepted (bad number place) = ⊥

@@ -15,11 +15,11 @@ ghost use Rattle.meaning.specs.Reading.{reading};
 ghost use Rattle.meaning.specs.Answers.{fillAnswer, bufferAfter};
 ghost use Rattle.leaves.specs.Said.{madeSaid};
 ghost use Rattle.sheets.specs.Index.{Ready};
-ghost use Rattle.fills.specs.Accepted.{IsShape};
+ghost use Rattle.fills.specs.Accepted.{IsAccepted};
 
 // Fills an accepted template with an accepted sheet.
 fn fill_sound(template: &[u8], sheet: &[u8], index: &[u16], out: &mut [u8]) -> Made
-    requires { ⌜ Ready (now sheet) (now index) × IsShape (reading (now template)) ⌝ }
+    requires { ⌜ Ready (now sheet) (now index) × IsAccepted (reading (now template)) ⌝ }
     ensures is { λ r. ⌜ r ≡ madeSaid (fillAnswer (now (template .entry)) (now (sheet .entry)) (length (now (out .entry)))) ⌝ }
     ensures buffer { λ _. ⌜ now (out .exit) ≡ bufferAfter (now (out .entry)) (fillAnswer (now (template .entry)) (now (sheet .entry)) (length (now (out .entry)))) ⌝ }
 {

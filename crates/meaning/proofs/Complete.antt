@@ -170,6 +170,17 @@ encode-pos (recordOf f) = omega arith
 encode-pos (functionOf p r) = omega arith
 encode-pos (symbolOf ts) = omega arith
 
+-- A shape has a level.
+pub depth-pos : (s : Shape) → 0 < depth s
+unfolding depth
+depth-pos (prim p) = omega arith
+depth-pos (blank n) = omega arith
+depth-pos (arrayOf s) = omega arith
+depth-pos (mapOf s t) = omega arith
+depth-pos (recordOf f) = omega arith
+depth-pos (functionOf p r) = omega arith
+depth-pos (symbolOf ts) = omega arith
+
 -- There are no more fields or parameters than bytes of them.
 pub count-le : {k : Sort} (t : Tree k) → count t ≤ length (encode t)
 unfolding encode count

@@ -64,6 +64,12 @@ longest = countSize + entrySize * maxEntries + countSize + maxEncodings
 pub two-bytes : (x y : ℕ) → x < 256 → y < 256 → twoBytes (ofTwo x y) ≡ x ∷ y ∷ []
 two-bytes x y h k = ap₂ (λ (i j : ℕ). i ∷ j ∷ []) (omega arith) (omega arith)
 
+-- So are the first four of some bytes those of two numbers.
+pub four-bytes : {x y z u : ℕ} {w v : List ℕ} → Bytes (x ∷ y ∷ z ∷ u ∷ w) → w ≡ v → x ∷ y ∷ z ∷ u ∷ w ≡ twoBytes (ofTwo x y) ++ (twoBytes (ofTwo z u) ++ v)
+four-bytes {x} {y} {z} {u} {w} {v} b h =
+    ap (λ (t : List ℕ). x ∷ y ∷ z ∷ u ∷ t) h
+    ∙ sym (ap₂ (λ (s t : List ℕ). s ++ t ++ v) (two-bytes x y (b .0) (b .1 .0)) (two-bytes z u (b .1 .1 .0) (b .1 .1 .1 .0)))
+
 -- The entries of a sheet within the limits are written as bytes.
 entries-small : (σ : Sheet) → All EntryWithin σ → Bytes (entriesBytes (lengths σ))
 unfolding entriesBytes each All
@@ -158,7 +164,7 @@ module _ (broken : ℕ) where
       by-next (readEntries broken (suc i) (suc (ofTwo x y)) c w) _ h λ ds u hd h.
       let r = entries-right (suc i) (suc (ofTwo x y)) c w ds u (b .1 .1 .1 .1) (omega arith) hd in
       rw (← same-got h .0) (record {
-        is = ap (λ (t : List ℕ). x ∷ y ∷ z ∷ z′ ∷ t) (rw (same-got h .1) at (r .is)) ∙ sym (ap₂ (λ (a c : List ℕ). a ++ (c ++ entriesBytes ds) ++ v) (two-bytes x y (b .0) (b .1 .0)) (two-bytes z z′ (b .1 .1 .0) (b .1 .1 .1 .0)));
+        is = four-bytes b (rw (same-got h .1) at (r .is));
         rising = (ltb-false _ _ p, r .rising);
         counted = ap suc (r .counted);
         small = (omega (arith, b .0, b .1 .0), r .small);

@@ -1,5 +1,6 @@
 -- What is read as a shape are the bytes of that shape.
 --     by-next, by-if, by-else     a reading that got something, taken apart
+--     code-prim                   a number under 5 is that of its primitive
 --     by-class                    what a first byte says, case by case
 --     shape-right                 of the reader of shapes
 -- Assumes nothing.

@@ -7,7 +7,6 @@
 --     table-refusal         a refusal has the number 9, 10 or 11, and a place no further on than the end, nor than longestTable
 --     table-length          how many bytes a table has
 --     longestTable          how many at the limits
---     table-at-most         so many at most
 --     table-bytes           a table is written as bytes
 -- Assumes nothing.
 use Prim.Native.Nat.{ℕ, zero, suc, _+_, _*_, _≤_, _<_, min}
@@ -34,7 +33,7 @@ use Rattle.meaning.proofs.Window.{bytes-append}
 use Rattle.meaning.proofs.Complete.{two-value}
 use Rattle.meaning.proofs.Sound.{not-got, same-got, by-next, by-else, bytes-rest}
 use Rattle.meaning.proofs.Faults.{not-bad}
-use Rattle.meaning.proofs.SheetBytes.{two-bytes}
+use Rattle.meaning.proofs.SheetBytes.{two-bytes, four-bytes}
 
 -- The bytes of nodes one after the other are their bytes one after the other.
 pub nodes-append : (ns ms : List Node) → nodesBytes (ns ++ ms) ≡ nodesBytes ns ++ nodesBytes ms
@@ -72,10 +71,6 @@ table-length T = simp length-append (omega (arith, nodes-length (T .nodes), link
 -- how many bytes a table has whose nodes, links, names and text are at their limits
 abbrev pub longestTable : ℕ
 longestTable = tableSize maxNodes maxLinks maxNames maxText
-
--- A table within the limits is no longer.
-pub table-at-most : (T : Table) → TableWithin T → length (tableBytes T) ≤ longestTable
-table-at-most T h = omega (arith, table-length T, h .nodes-few, h .links-few, h .names-few, h .text-short)
 
 -- Nodes whose numbers fit are written as bytes.
 nodes-small : (ns : List Node) → NodesFit ns → Bytes (nodesBytes ns)
@@ -202,14 +197,14 @@ section-right p least most size (x ∷ y ∷ w) n v h =
       there = ltb-false _ _ p₃;
     })
 
--- c nodes are in bytes that are long enough: they are their bytes, and what follows
-record NodesAre (c : ℕ) (w : List ℕ) : Type 0 where
-  is : w ≡ nodesBytes (nodesIn c w) ++ drop (nodeSize * c) w
-  counted : length (nodesIn c w) ≡ c
-  fit : NodesFit (nodesIn c w)
+-- c entries are in bytes that are long enough: they are their bytes, and what follows
+record Entries {E : Type 0} (entriesIn : ℕ → List ℕ → List E) (entriesBytes : List E → List ℕ) (Fit : List E → Type 0) (size c : ℕ) (w : List ℕ) : Type 0 where
+  is : w ≡ entriesBytes (entriesIn c w) ++ drop (size * c) w
+  counted : length (entriesIn c w) ≡ c
+  fit : Fit (entriesIn c w)
 
--- So are any that are read.
-nodes-right : (c : ℕ) (w : List ℕ) → Bytes w → nodeSize * c ≤ length w → NodesAre c w
+-- So are any nodes that are read.
+nodes-right : (c : ℕ) (w : List ℕ) → Bytes w → nodeSize * c ≤ length w → Entries nodesIn nodesBytes NodesFit nodeSize c w
 unfolding nodesIn nodesBytes NodesFit
 nodes-right zero w b l = record { is = refl; counted = refl; fit = tt }
 nodes-right (suc c) [] b l = absurd (omega arith)
@@ -222,19 +217,13 @@ nodes-right (suc c) (k ∷ z ∷ p ∷ q ∷ r ∷ s ∷ w) b l =
     let g = nodes-right c w (b .1 .1 .1 .1 .1 .1) (omega arith) in
     let e : nodeSize * suc c ≡ suc (suc (suc (suc (suc (suc (nodeSize * c)))))) = omega arith in
     record {
-      is = rw e (ap (λ (t : List ℕ). k ∷ z ∷ p ∷ q ∷ r ∷ s ∷ t) (g .is) ∙ sym (ap₂ (λ (t u : List ℕ). k ∷ z ∷ t ++ (u ++ nodesBytes (nodesIn c w)) ++ drop (nodeSize * c) w) (two-bytes p q (b .1 .1 .0) (b .1 .1 .1 .0)) (two-bytes r s (b .1 .1 .1 .1 .0) (b .1 .1 .1 .1 .1 .0))));
+      is = rw e (ap (λ (t : List ℕ). k ∷ z ∷ t) (four-bytes (b .1 .1) (g .is)));
       counted = ap suc (g .counted);
       fit = (b .0, b .1 .0, omega (arith, b .1 .1 .0, b .1 .1 .1 .0), omega (arith, b .1 .1 .1 .1 .0, b .1 .1 .1 .1 .1 .0), g .fit);
     }
 
--- c links are in bytes that are long enough: they are their bytes, and what follows
-record LinksAre (c : ℕ) (w : List ℕ) : Type 0 where
-  is : w ≡ linksBytes (linksIn c w) ++ drop (linkSize * c) w
-  counted : length (linksIn c w) ≡ c
-  fit : LinksFit (linksIn c w)
-
--- So are any that are read.
-links-right : (c : ℕ) (w : List ℕ) → Bytes w → linkSize * c ≤ length w → LinksAre c w
+-- So are any links.
+links-right : (c : ℕ) (w : List ℕ) → Bytes w → linkSize * c ≤ length w → Entries linksIn linksBytes LinksFit linkSize c w
 unfolding linksIn linksBytes LinksFit
 links-right zero w b l = record { is = refl; counted = refl; fit = tt }
 links-right (suc c) [] b l = absurd (omega arith)
@@ -245,19 +234,13 @@ links-right (suc c) (p ∷ q ∷ r ∷ s ∷ w) b l =
     let g = links-right c w (b .1 .1 .1 .1) (omega arith) in
     let e : linkSize * suc c ≡ suc (suc (suc (suc (linkSize * c)))) = omega arith in
     record {
-      is = rw e (ap (λ (t : List ℕ). p ∷ q ∷ r ∷ s ∷ t) (g .is) ∙ sym (ap₂ (λ (t u : List ℕ). t ++ (u ++ linksBytes (linksIn c w)) ++ drop (linkSize * c) w) (two-bytes p q (b .0) (b .1 .0)) (two-bytes r s (b .1 .1 .0) (b .1 .1 .1 .0))));
+      is = rw e (four-bytes b (g .is));
       counted = ap suc (g .counted);
       fit = (omega (arith, b .0, b .1 .0), omega (arith, b .1 .1 .0, b .1 .1 .1 .0), g .fit);
     }
 
--- c names are in bytes that are long enough: they are their bytes, and what follows
-record NamesAre (c : ℕ) (w : List ℕ) : Type 0 where
-  is : w ≡ namesBytes (namesIn c w) ++ drop (nameSize * c) w
-  counted : length (namesIn c w) ≡ c
-  fit : NamesFit (namesIn c w)
-
--- So are any that are read.
-names-right : (c : ℕ) (w : List ℕ) → Bytes w → nameSize * c ≤ length w → NamesAre c w
+-- So are any names.
+names-right : (c : ℕ) (w : List ℕ) → Bytes w → nameSize * c ≤ length w → Entries namesIn namesBytes NamesFit nameSize c w
 unfolding namesIn namesBytes NamesFit
 names-right zero w b l = record { is = refl; counted = refl; fit = tt }
 names-right (suc c) [] b l = absurd (omega arith)
@@ -268,7 +251,7 @@ names-right (suc c) (p ∷ q ∷ r ∷ s ∷ w) b l =
     let g = names-right c w (b .1 .1 .1 .1) (omega arith) in
     let e : nameSize * suc c ≡ suc (suc (suc (suc (nameSize * c)))) = omega arith in
     record {
-      is = rw e (ap (λ (t : List ℕ). p ∷ q ∷ r ∷ s ∷ t) (g .is) ∙ sym (ap₂ (λ (t u : List ℕ). t ++ (u ++ namesBytes (namesIn c w)) ++ drop (nameSize * c) w) (two-bytes p q (b .0) (b .1 .0)) (two-bytes r s (b .1 .1 .0) (b .1 .1 .1 .0))));
+      is = rw e (four-bytes b (g .is));
       counted = ap suc (g .counted);
       fit = (omega (arith, b .0, b .1 .0), omega (arith, b .1 .1 .0, b .1 .1 .1 .0), g .fit);
     }
@@ -321,19 +304,19 @@ sections-right w w₁ w₂ w₃ w₄ n l m c b s₁ s₂ s₃ s₄ e T t f g = r
   },
 )
   where
-    a₁ : NodesAre n w₁
+    a₁ : Entries nodesIn nodesBytes NodesFit nodeSize n w₁
     a₁ = nodes-right n w₁ (s₁ .is b .1) (s₁ .there)
 
     b₁ : Bytes (drop (nodeSize * n) w₁)
     b₁ = bytes-rest (nodesBytes (nodesIn n w₁)) w₁ _ (a₁ .is) (s₁ .is b .1)
 
-    a₂ : LinksAre l w₂
+    a₂ : Entries linksIn linksBytes LinksFit linkSize l w₂
     a₂ = links-right l w₂ (s₂ .is b₁ .1) (s₂ .there)
 
     b₂ : Bytes (drop (linkSize * l) w₂)
     b₂ = bytes-rest (linksBytes (linksIn l w₂)) w₂ _ (a₂ .is) (s₂ .is b₁ .1)
 
-    a₃ : NamesAre m w₃
+    a₃ : Entries namesIn namesBytes NamesFit nameSize m w₃
     a₃ = names-right m w₃ (s₃ .is b₂ .1) (s₃ .there)
 
     b₃ : Bytes (drop (nameSize * m) w₃)

@@ -1,13 +1,13 @@
 -- The table of a shape, by an induction over trees with a table that goes on: what is added keeps what was there.
 --     table-stands                           its last node stands for the shape
---     stands-shape, stands-one               what a node stands for is what is found there, and is one shape only
+--     stands-shape                           what a node stands for is what is found there
 --     table-shape, table-rooted              the table means the shape, and has a node
 --     table-good-nodes, table-good-names     its nodes and names are good
 --     table-text-bytes                       its text is bytes
 --     short-small                            its numbers are small, if its sections are short
 --     card-table                             the bench card's table
 -- Assumes nothing.
-use Prim.Native.Nat.{ℕ, zero, suc, _+_, _-_, _≤_, _<_, max}
+use Prim.Native.Nat.{ℕ, zero, suc, _+_, _-_, _≤_, _<_}
 use mathlib.Core.Path.{_≡_, refl, sym, _∙_, ap, ap₂}
 use mathlib.Core.Bool.{Bool, true}
 use mathlib.Core.List.{List, [], _∷_, _++_, append-assoc, append-nil}
@@ -25,7 +25,7 @@ use Rattle.meaning.specs.Table.{Node, Link, Name, Table, arrayKind, mapK
 use Rattle.meaning.specs.TableReading.{bareLink, namedLink, textLink, goodRun, goodLinks, goodNode, GoodNodes, GoodNames}
 use Rattle.meaning.proofs.Window.{bytes-append}
 use Rattle.meaning.proofs.Utf8.{utf8-bytes}
-use Rattle.meaning.proofs.Complete.{code-small, prim-code}
+use Rattle.meaning.proofs.Complete.{code-small, prim-code, depth-pos}
 use Rattle.meaning.proofs.Lists.{fields-count, field-names}
 
 -- two bytes hold the numbers below this
@@ -340,10 +340,6 @@ module _ (T : Table) where
   pub stands-shape : (s : Shape) (n i : ℕ) → depth s ≤ suc n → Stands T s i → shapeIn T n i ≡ s
   stands-shape s n i d h = stands-made s (suc n) i d h
 
-  -- A node stands for one shape only.
-  pub stands-one : (s t : Shape) (i : ℕ) → Stands T s i → Stands T t i → s ≡ t
-  stands-one s t i h k = sym (stands-shape s (max (depth s) (depth t)) i (omega arith) h) ∙ stands-shape t (max (depth s) (depth t)) i (omega arith) k
-
 -- With a node, a table has one node more.
 with-nodes : (D : Table) (n : Node) (ls : List Link) (ws : List Text) → length (withNode D n ls ws .table .nodes) ≡ suc (length (D .nodes))
 unfolding withNode
@@ -367,17 +363,6 @@ grow-deep (parameter s p) T = omega (arith, grow-deep s T, grow-deep p (grow s T
 -- The table of a shape means the shape.
 pub table-shape : (s : Shape) → tableShape (tableOf s) ≡ s
 table-shape s = stands-shape (tableOf s) s _ _ (omega (arith, grow-deep s emptyTable)) (table-stands s)
-
--- A shape has a level.
-depth-pos : (s : Shape) → 1 ≤ depth s
-unfolding depth
-depth-pos (prim p) = omega arith
-depth-pos (blank n) = omega arith
-depth-pos (arrayOf s) = omega arith
-depth-pos (mapOf s t) = omega arith
-depth-pos (recordOf f) = omega arith
-depth-pos (functionOf p r) = omega arith
-depth-pos (symbolOf ts) = omega arith
 
 -- Its root is there: the table has a node.
 pub table-rooted : (s : Shape) → 1 ≤ length (tableOf s .nodes)

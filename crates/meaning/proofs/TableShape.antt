@@ -23,21 +23,12 @@ use Rattle.meaning.specs.Table.{Node, Link, Name, Table, node, arrayKind
 use Rattle.meaning.specs.TableReading.{bareLink, namedLink, textLink, goodRun, goodLinks, goodNode, NodesFit, GoodNodes, GoodNames, TableWithin}
 use Rattle.meaning.proofs.Rules.{rule}
 use Rattle.meaning.proofs.Complete.{code-small, prim-code}
+use Rattle.meaning.proofs.Sound.{code-prim}
 
 -- Two tests that hold together hold each.
 both-true : (a b : Bool) → (a && b) ≡ true → (a ≡ true) × (b ≡ true)
 both-true true b h = (refl, h)
 both-true false b h = absurd (false≢true h)
-
--- A number under 5 is that of a primitive.
-code-prim : (k : ℕ) → k < 5 → code (primOf k) ≡ k
-unfolding code primOf
-code-prim zero h = refl
-code-prim (suc zero) h = refl
-code-prim (suc (suc zero)) h = refl
-code-prim (suc (suc (suc zero))) h = refl
-code-prim (suc (suc (suc (suc zero)))) h = refl
-code-prim (suc (suc (suc (suc (suc k))))) h = absurd (omega arith)
 
 -- Nodes with the same kind, a and b, and with a zero byte, are the same.
 same-node : (n : Node) (k a b : ℕ) → n .second ≡ 0 → n .kind ≡ k → n .a ≡ a → n .b ≡ b → node k a b ≡ n

@@ -1,7 +1,6 @@
 -- What is UTF-8 is bytes, and the characters at the front of a list end within it.
---     char-le            the first character ends within the list
---     well-formed-le     a list is well formed no further than to its end
---     utf8-bytes         what is UTF-8 is bytes
+--     char-le        the first character ends within the list
+--     utf8-bytes     what is UTF-8 is bytes
 -- Assumes nothing.
 use Prim.Native.Nat.{ℕ, zero, suc, _+_, _≤_, _<_, zero-le, suc-le-suc}
 use mathlib.Core.Path.{_≡_}
@@ -72,11 +71,6 @@ unfolding charsSize
 chars-fit zero w = (zero-le, tt)
 chars-fit (suc n) w = rule (Fits w) (eqb (charSize w) 0) _ _ (λ _. (zero-le, tt)) λ _.
     fits-add w (charSize w) (charsSize n (drop (charSize w) w)) (char-fits w) (chars-fit n (drop (charSize w) w))
-
--- A list is well formed no further than to its end.
-pub well-formed-le : (w : List ℕ) → wellFormed w ≤ length w
-unfolding wellFormed
-well-formed-le w = chars-fit (length w) w .0
 
 -- What is UTF-8 is bytes.
 pub utf8-bytes : (t : List ℕ) → utf8 t ≡ true → Bytes t

@@ -3,8 +3,8 @@
 --     window-length                its length
 --     window-place, place-some     a window's place is its end less its length
 --     window-take, window-drop     a front and a rest of a window are windows
---     window-getD, window-all      its bytes are those of the input; the whole input is a window
---     bytes-by-index, bytes-append, bytes-take, bytes-window     lists of bytes
+--     window-all                   the whole input is a window
+--     bytes-by-index, bytes-append, bytes-take     lists of bytes
 -- Assumes nothing.
 use Prim.Native.Nat.{ℕ, zero, suc, _+_, _-_, _≤_, _<_}
 use mathlib.Core.Path.{_≡_, _∙_, ap}
@@ -13,7 +13,7 @@ use native.Mathlib.Nat.{zero-add, suc-add}
 use native.Mathlib.Numerals.{add-one}
 use native.Mathlib.Omega.{arith}
 use lib.ListN.{length, take, drop, getD}
-use lib.Seq.{slice, slice-cons, length-slice, drop-drop, take-take, take-nil, drop-nil, take-length, getD-take, getD-drop}
+use lib.Seq.{slice, slice-cons, length-slice, drop-drop, take-take, take-nil, drop-nil, take-length}
 use Rattle.meaning.specs.Within.{Bytes}
 
 -- A window that begins at its end or after it is empty.
@@ -53,10 +53,6 @@ window-drop s a e n = drop-drop n a (take e s)
 pub place-some : (s : List ℕ) (a e : ℕ) → a < e → e ≤ length s → e - suc (length (slice (a + 1) e s)) ≡ a
 place-some s a e h k = rw (window-length s (a + 1) e k) (omega arith)
 
--- A window's bytes are those of the input.
-pub window-getD : (s : List ℕ) (a e i : ℕ) → i < e - a → e ≤ length s → getD (slice a e s) i 0 ≡ getD s (a + i) 0
-window-getD s a e i h k = rw (getD-drop, getD-take e s (a + i) 0 (omega arith))
-
 -- The whole input is a window.
 pub window-all : (s : List ℕ) → slice 0 (length s) s ≡ s
 window-all s = take-length s
@@ -76,12 +72,3 @@ pub bytes-take : (s : List ℕ) (n : ℕ) → Bytes s → Bytes (take n s)
 bytes-take s zero b = tt
 bytes-take [] (suc n) b = tt
 bytes-take (x ∷ s) (suc n) b = (b .0, bytes-take s n (b .1))
-
--- A window of bytes is bytes.
-pub bytes-window : (s : List ℕ) (a e : ℕ) → Bytes s → Bytes (slice a e s)
-bytes-window s a e h = bytes-drop a (take e s) (bytes-take s e h)
-  where
-    bytes-drop : (n : ℕ) (w : List ℕ) → Bytes w → Bytes (drop n w)
-    bytes-drop zero w b = b
-    bytes-drop (suc n) [] b = tt
-    bytes-drop (suc n) (x ∷ w) b = bytes-drop n w (b .1)

@@ -7,7 +7,7 @@
 use mathlib.Core.Path.{_≡_, refl, ap, _∙_}
 use mathlib.Core.Bool.{true, false}
 use mathlib.Core.List.{List, [], _∷_, _++_, append-assoc, append-nil}
-use Prim.Native.Nat.{ℕ, zero, suc, _+_, _-_, _≤_, _<_, _/_}
+use Prim.Native.Nat.{ℕ, zero, suc, _+_, _-_, _≤_, _/_}
 use native.Mathlib.Omega.{arith}
 use native.Mathlib.Nat.{add-zero}
 use lib.ListN.{length, take, getD, length-append}
@@ -23,7 +23,7 @@ use Rattle.meaning.specs.Reading.{hasShort}
 use Rattle.meaning.specs.Parts.{Item, bare, named, lone, fieldItems, parameterItems, items, nameBytes, shapeBytes, listBytes}
 use Rattle.meaning.specs.Within.{Within}
 use Rattle.meaning.proofs.Sound.{long-array, long-map}
-use Rattle.meaning.proofs.Complete.{two-value, class-kind, array-long, map-long, encode-pos, count-le}
+use Rattle.meaning.proofs.Complete.{two-value, class-kind, array-long, map-long, encode-pos, depth-pos, count-le}
 use Rattle.meaning.proofs.Heads.{Head, whole-byte, packed-byte, payload, head-of}
 use Rattle.meaning.proofs.Lists.{list-append, fields-list, parameters-list, fields-count, parameters-count}
 use Rattle.reader.specs.First.{firstSaid, kindSaid}
@@ -269,17 +269,6 @@ module _ {X A : Type 0} (F : Pass X A) (v : Shape → X) where
         go (whole-byte b e k p) = begins b x (rw e at h) ∙ rw (k, first b e, m .whole b t k, e)
         go (packed-byte b e k p) = begins b x (rw e at h) ∙ rw (k, first b e, m .packed b t k, e)
         go (payload k q e p) = long-made t p h d l
-
--- A shape has a level.
-depth-pos : (t : Shape) → 0 < depth t
-unfolding depth
-depth-pos (prim p) = omega arith
-depth-pos (blank n) = omega arith
-depth-pos (arrayOf s) = omega arith
-depth-pos (mapOf s t) = omega arith
-depth-pos (recordOf f) = omega arith
-depth-pos (functionOf p r) = omega arith
-depth-pos (symbolOf ts) = omega arith
 
 -- Over a shape that stands at a place of the input, with levels enough, the pass makes v of it and comes to the place after it.
 pub pass-makes : {X A : Type 0} {F : Pass X A} {v : Shape → X} → Making F v → (left : ℕ) (t : Shape) (s : List ℕ) (at : ℕ) (x : List ℕ)

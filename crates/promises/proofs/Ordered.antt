@@ -37,6 +37,10 @@ unfolding onto
 onto-ordered R (got a v) f j k = k a v refl
 onto-ordered R (bad n p) f j k = j n p refl
 
+-- So of a sheet, whose refusal has the number that its reading was handed.
+sheet-ordered : (R : ℕ → ℕ → Type 0) (broken : ℕ) (w : List ℕ) (f : Sheet → Answer) → ((p : ℕ) → readSheet broken w ≡ bad broken p → R broken p) → ((σ : Sheet) (v : List ℕ) → readSheet broken w ≡ got σ v → Ordered R (f σ)) → Ordered R (onto (readSheet broken w) f)
+sheet-ordered R broken w f j = onto-ordered R (readSheet broken w) f (λ n p e. let i = sheet-refusal broken w n p e .0 in rw i (j p (e ∙ ap₂ bad i refl)))
+
 -- So of 12.
 room-ordered : (R : ℕ → ℕ → Type 0) (room : ℕ) (w : List ℕ) → (room < length w → R bufferShort (length w)) → Ordered R (inRoom room w)
 unfolding inRoom
@@ -109,10 +113,6 @@ joined-clause {σ} {room} (sheet-no-room l f m h) = rw (le-ltb _ _ l, past-all �
 pub exactly : {n p : ℕ} (R : ℕ → ℕ → Type 0) {a : Answer} → Ordered R a → (R n p → a ≡ refused n p) → (a ≡ refused n p) ↔ R n p
 exactly R o k = (λ e. rw e at o, k)
 
--- A sheet's refusal has the number that it was handed.
-numbered : {n p : ℕ} (broken : ℕ) (w : List ℕ) → readSheet broken w ≡ bad n p → (n ≡ broken) × (readSheet broken w ≡ bad broken p)
-numbered {n} {p} broken w e = let i = sheet-refusal broken w n p e .0 in (i, e ∙ ap₂ bad i refl)
-
 module _ (template sheet : List ℕ) (room : ℕ) where
   -- Each clause gives its refusal.
   fill-clause : {n p : ℕ} → FillRefuses template sheet room n p → fillAnswer template sheet room ≡ refused n p
@@ -124,13 +124,10 @@ module _ (template sheet : List ℕ) (room : ℕ) where
   -- What a fill answers is a refusal exactly by its clauses.
   pub fill-order : (n p : ℕ) → (fillAnswer template sheet room ≡ refused n p) ↔ FillRefuses template sheet room n p
   unfolding fillAnswer
-  fill-order n p = exactly R (
-      onto-ordered R (reading template) _ (λ n p. template-bad) λ t v h.
-      onto-ordered R (readSheet sheetBroken sheet) _ (λ n p e. let i = numbered sheetBroken sheet e in rw (i .0) (sheet-bad h (i .1))) λ σ w g.
-      one-ordered R (fill σ t) room (λ n p. filled-bad h g)) fill-clause
-    where
-      R : ℕ → ℕ → Type 0
-      R = FillRefuses template sheet room
+  fill-order n p = exactly (FillRefuses template sheet room) (
+      onto-ordered _ (reading template) _ (λ n p. template-bad) λ t v h.
+      sheet-ordered _ sheetBroken sheet _ (λ p. sheet-bad h) λ σ w g.
+      one-ordered _ (fill σ t) room (λ n p. filled-bad h g)) fill-clause
 
 module _ (first second : List ℕ) (room : ℕ) where
   -- Each clause gives its refusal.
@@ -143,13 +140,10 @@ module _ (first second : List ℕ) (room : ℕ) where
   -- What a joining answers is a refusal exactly by its clauses.
   pub join-order : (n p : ℕ) → (joinAnswer first second room ≡ refused n p) ↔ JoinRefuses first second room n p
   unfolding joinAnswer
-  join-order n p = exactly R (
-      onto-ordered R (readSheet sheetBroken first) _ (λ n p e. let i = numbered sheetBroken first e in rw (i .0) (first-bad (i .1))) λ σ v h.
-      onto-ordered R (readSheet secondBroken second) _ (λ n p e. let i = numbered secondBroken second e in rw (i .0) (second-bad h (i .1))) λ τ w g.
-      joined-ordered R (join σ τ) room (λ n p. joined-bad h g)) join-clause
-    where
-      R : ℕ → ℕ → Type 0
-      R = JoinRefuses first second room
+  join-order n p = exactly (JoinRefuses first second room) (
+      sheet-ordered _ sheetBroken first _ (λ p. first-bad) λ σ v h.
+      sheet-ordered _ secondBroken second _ (λ p. second-bad h) λ τ w g.
+      joined-ordered _ (join σ τ) room (λ n p. joined-bad h g)) join-clause
 
 module _ (table : List ℕ) (room : ℕ) where
   -- Each clause gives its refusal.
@@ -161,12 +155,9 @@ module _ (table : List ℕ) (room : ℕ) where
   -- What a writing answers is a refusal exactly by its clauses.
   pub write-order : (n p : ℕ) → (writeAnswer table room ≡ refused n p) ↔ WriteRefuses table room n p
   unfolding writeAnswer
-  write-order n p = exactly R (
-      onto-ordered R (readTable table) _ (λ n p. table-bad) λ T v h.
-      one-ordered R (tableShape T) room (λ n p. root-bad h)) write-clause
-    where
-      R : ℕ → ℕ → Type 0
-      R = WriteRefuses table room
+  write-order n p = exactly (WriteRefuses table room) (
+      onto-ordered _ (readTable table) _ (λ n p. table-bad) λ T v h.
+      one-ordered _ (tableShape T) room (λ n p. root-bad h)) write-clause
 
 module _ (bytes : List ℕ) (room : ℕ) where
   -- Each clause gives its refusal.
@@ -178,12 +169,9 @@ module _ (bytes : List ℕ) (room : ℕ) where
   -- What a way back answers is a refusal exactly by its clauses.
   pub table-order : (n p : ℕ) → (tableAnswer bytes room ≡ refused n p) ↔ TableRefuses bytes room n p
   unfolding tableAnswer
-  table-order n p = exactly R (
-      onto-ordered R (reading bytes) _ (λ n p. bytes-bad) λ s v h.
-      room-ordered R room _ (table-no-room h)) table-clause
-    where
-      R : ℕ → ℕ → Type 0
-      R = TableRefuses bytes room
+  table-order n p = exactly (TableRefuses bytes room) (
+      onto-ordered _ (reading bytes) _ (λ n p. bytes-bad) λ s v h.
+      room-ordered _ room _ (table-no-room h)) table-clause
 
 -- `child` and `name` as an answer: a refusal, or no bytes
 unfoldable pub partAnswer : {A : Type 0} → (Shape → List A) → Reading Shape → ℕ → Answer
@@ -202,9 +190,6 @@ module _ {A : Type 0} (parts : Shape → List A) (bytes : List ℕ) (k : ℕ) wh
   -- What is answered for a part is a refusal exactly by its clauses.
   pub part-order : (n p : ℕ) → (partAnswer parts (reading bytes) k ≡ refused n p) ↔ PartRefuses parts bytes k n p
   unfolding partAnswer
-  part-order n p = exactly R (
-      onto-ordered R (reading bytes) _ (λ n p. encoding-bad) λ s v h.
-      rule (Ordered R) (ltb k (length (parts s))) _ _ (λ _. tt) (λ t. no-part h (ltb-false _ _ t))) part-clause
-    where
-      R : ℕ → ℕ → Type 0
-      R = PartRefuses parts bytes k
+  part-order n p = exactly (PartRefuses parts bytes k) (
+      onto-ordered _ (reading bytes) _ (λ n p. encoding-bad) λ s v h.
+      rule (Ordered (PartRefuses parts bytes k)) (ltb k (length (parts s))) _ _ (λ _. tt) (λ t. no-part h (ltb-false _ _ t))) part-clause

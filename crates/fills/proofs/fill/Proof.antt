@@ -5,7 +5,7 @@ use mathlib.Core.Path.{refl, sym, _∙_}
 use lib.ListN.{length}
 use Rattle.meaning.specs.Reading.{reading}
 use Rattle.meaning.specs.Answers.{bufferAfter}
-use Rattle.fills.specs.Accepted.{IsShape}
+use Rattle.fills.specs.Accepted.{IsAccepted}
 use Rattle.fills.proofs.Cases.{accepted, answer-unread, answer-broken}
 use Rattle.fills.proofs.fill.Statement.{statement}
 use Rattle.fills.proofs.fill.Tie as tie
@@ -25,7 +25,7 @@ returns-2 : tie.Need-returns-2
 unfolding bufferAfter
 returns-2 c =
     let k = c .before .before .before .before in let r = k .before .before .before .before in let a = r .before .before .before .before .args in
-    let h : IsShape (reading (a .template .now)) = accepted (reading (a .template .now)) _ _ (sym (r .read .ensures) ∙ c .before .before .before .before .before .before .enum-told .given .1) in
+    let h : IsAccepted (reading (a .template .now)) = accepted (reading (a .template .now)) _ _ (sym (r .read .ensures) ∙ c .before .before .before .before .before .before .enum-told .given .1) in
     rw (answer-broken (a .template .now) (a .sheet .now) (length (a .out .now)) _ h (sym (k .check-into .ensures .0) ∙ c .before .place .given .1)) (refl, refl)
 
 pub fill-spec : {M : Type 1} → statement M
