@@ -1,6 +1,7 @@
 // The writer: from a node table to the encoding of the shape that it means (01-scope.md, "Node table"). The checks come first, then how long and
 // how deep the shape is, found without walking what nodes share; only what is known to fit is written.
 use extents::extents_of;
+use leaves::COUNT_SIZE;
 use leaves::buffer::Made;
 use leaves::buffer::put_byte;
 use leaves::buffer::put_leb;
@@ -18,7 +19,6 @@ use reader::first::PACKED;
 use reader::first::PACKED_MAPS;
 use reader::first::PRIMITIVES;
 use tables::ARRAY;
-use tables::COUNT_SIZE;
 use tables::FUNCTION;
 use tables::Layout;
 use tables::MAP;
