@@ -2,24 +2,26 @@
 --     found              an accepted template is the encoding of a shape, and the size that was measured is that of the shape, filled
 --     answer-unread      a template that the reader refuses
 --     answer-broken      a sheet that the check refuses
---     answer-deep, answer-long, answer-short, answer-made     of an accepted template and sheet
+--     answer-is, filled-comes     of an accepted template and sheet
 -- Assumes nothing.
 use Prim.Native.Nat.{ℕ, _≤_, _<_}
-use mathlib.Core.Path.{_≡_, refl, _∙_, ap}
+use mathlib.Core.Path.{_≡_, refl}
 use mathlib.Core.List.{List}
 use native.Mathlib.Omega.{arith}
 use lib.ListN.{length, getD}
-use borrow.Author.Tests.{lt-ltb, le-ltb}
-use Rattle.meaning.specs.Limits.{maxBytes, maxLevels}
-use Rattle.meaning.specs.Refusals.{bufferShort, sheetBroken, madeTooDeep, madeTooLong}
-use Rattle.meaning.specs.Shape.{Shape, depth}
+use Rattle.meaning.specs.Limits.{maxBytes}
+use Rattle.meaning.specs.Refusals.{sheetBroken}
+use Rattle.meaning.specs.Shape.{Shape}
 use Rattle.meaning.specs.Encode.{encode}
 use Rattle.meaning.specs.Reading.{Reading, got, bad, reading}
 use Rattle.meaning.specs.Sheet.{plug}
 use Rattle.meaning.specs.SheetReading.{readSheet}
-use Rattle.meaning.specs.Answers.{answered, refused, onto, inRoom, made, fillAnswer}
+use Rattle.meaning.specs.Answers.{refused, onto, inRoom, made, fillAnswer}
 use Rattle.meaning.proofs.Window.{bytes-by-index}
 use Rattle.meaning.proofs.Laws.{by-reading}
+use Rattle.leaves.specs.declared.buffer.Made.{Made}
+use Rattle.leaves.specs.Verdicts.{verdictOf}
+use Rattle.leaves.proofs.Verdicts.{Comes, comes}
 use Rattle.reader.specs.declared.Judgement.the-variants.{Accepted, Refused}
 use Rattle.reader.specs.Said.{said}
 use Rattle.sheets.specs.declared.Checked.the-variants.{Broken}
@@ -76,35 +78,11 @@ module _ {template sheet index : List ℕ} {r : Size} (room : ℕ) (ready : Read
   abbrev filled : Shape
   filled = plug (blankIn sheet) (f .t)
 
-  pub found-length : r .length ≡ length (encode filled)
-  found-length = ap (λ (s : Size). s .length) (f .size)
-
-  pub found-depth : r .depth ≡ depth filled
-  found-depth = ap (λ (s : Size). s .depth) (f .size)
-
   -- What is left to be looked at: the filled shape and the room.
-  answer-is : fillAnswer template sheet room ≡ made 0 filled (inRoom room (encode filled))
+  pub answer-is : fillAnswer template sheet room ≡ made 0 filled (inRoom room (encode filled))
   unfolding fillAnswer onto
   answer-is = rw (f .is, ready .accepted)
 
-  pub answer-deep : maxLevels < r .depth → fillAnswer template sheet room ≡ refused madeTooDeep 0
-  unfolding made
-  answer-deep h = answer-is ∙ rw (lt-ltb maxLevels (depth filled) (omega (arith, found-depth)))
-
-  module _ (d : r .depth ≤ maxLevels) where
-    pub answer-long : maxBytes < r .length → fillAnswer template sheet room ≡ refused madeTooLong 0
-    unfolding made
-    answer-long h = answer-is ∙ rw (le-ltb maxLevels (depth filled) (omega (arith, found-depth)), lt-ltb maxBytes (length (encode filled)) (omega (arith, found-length)))
-
-    module _ (l : r .length ≤ maxBytes) where
-      fits : fillAnswer template sheet room ≡ inRoom room (encode filled)
-      unfolding made
-      fits = answer-is ∙ rw (le-ltb maxLevels (depth filled) (omega (arith, found-depth)), le-ltb maxBytes (length (encode filled)) (omega (arith, found-length)))
-
-      pub answer-short : room < r .length → fillAnswer template sheet room ≡ refused bufferShort (r .length)
-      unfolding inRoom
-      answer-short h = fits ∙ rw (lt-ltb room (length (encode filled)) (omega (arith, found-length)), found-length)
-
-      pub answer-made : r .length ≤ room → fillAnswer template sheet room ≡ answered (encode filled)
-      unfolding inRoom
-      answer-made h = fits ∙ rw (le-ltb room (length (encode filled)) (omega (arith, found-length)))
+  -- The verdict on the size is that on the filled shape.
+  pub filled-comes : {v : Made} → v ≡ verdictOf (r .length) (r .depth) room → Comes filled room v
+  filled-comes e = comes filled (r .length) (r .depth) room (rw (f .size) refl) (rw (f .size) refl) e

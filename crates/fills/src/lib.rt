@@ -1,11 +1,7 @@
 // Fill (01-scope.md, "Sheets"): the template with all blanks that the sheet names replaced at one moment. It is measured first and written second,
 // so a refusal has written nothing.
 use leaves::buffer::Made;
-use leaves::limits::MAX_BYTES;
-use leaves::limits::MAX_LEVELS;
-use leaves::refusals::BUFFER_SHORT;
-use leaves::refusals::MADE_TOO_DEEP;
-use leaves::refusals::MADE_TOO_LONG;
+use leaves::buffer::verdict;
 use leaves::refusals::SHEET_BROKEN;
 use reader::Judgement;
 use sheets::Checked;
@@ -24,27 +20,13 @@ fn fill_sound(template: &[u8], sheet: &[u8], index: &[u16], out: &mut [u8]) -> M
     ensures buffer { λ _. ⌜ now (out .exit) ≡ bufferAfter (now (out .entry)) (fillAnswer (now (template .entry)) (now (sheet .entry)) (length (now (out .entry)))) ⌝ }
 {
     let size = sizes::measure(template, sheet, index);
-    let needed = size.length;
-    if MAX_LEVELS < size.depth {
-        return Made::Refused {
-            number: MADE_TOO_DEEP,
-            place: 0,
-        };
+    match verdict(size.length, size.depth, out.len()) {
+        Made::Refused { number, place } => Made::Refused { number, place },
+        Made::Written { length } => {
+            writes::write(template, sheet, index, out, 0);
+            Made::Written { length }
+        }
     }
-    if MAX_BYTES < needed {
-        return Made::Refused {
-            number: MADE_TOO_LONG,
-            place: 0,
-        };
-    }
-    if out.len() < needed {
-        return Made::Refused {
-            number: BUFFER_SHORT,
-            place: needed,
-        };
-    }
-    let length = writes::write(template, sheet, index, out, 0);
-    Made::Written { length }
 }
 
 // Fills a template with a sheet, whatever their bytes are, into the front of a lent buffer of any length.

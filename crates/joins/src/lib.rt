@@ -1,6 +1,7 @@
 // Join (01-scope.md, "Sheets"): each blank of the first sheet with its shape filled by the second, and each blank only in the second as it is
 // there. The numbers of both rise, so the joined entries are met in order by going through both at once: to count them, to measure them, and to
 // write them. A refusal has written nothing.
+use leaves::COUNT_SIZE;
 use leaves::buffer::Made;
 use leaves::buffer::put_part;
 use leaves::buffer::put_two;
@@ -14,7 +15,6 @@ use leaves::refusals::MADE_TOO_DEEP;
 use leaves::refusals::MADE_TOO_LONG;
 use leaves::refusals::SECOND_BROKEN;
 use leaves::refusals::SHEET_BROKEN;
-use sheets::COUNT_SIZE;
 use sheets::Checked;
 use sheets::ENTRY_SIZE;
 ghost use mathlib.Core.Path.{_≡_};

@@ -2,3 +2,4 @@ pub mod Written
 pub mod Numbers
 pub mod Text
 pub mod Way
+pub mod Verdicts

@@ -1,4 +1,9 @@
-// Bytes written into a lent buffer, from a place on.
+// Bytes written into a lent buffer, from a place on, and whether a made shape can be.
+use crate::limits::MAX_BYTES;
+use crate::limits::MAX_LEVELS;
+use crate::refusals::BUFFER_SHORT;
+use crate::refusals::MADE_TOO_DEEP;
+use crate::refusals::MADE_TOO_LONG;
 ghost use mathlib.Core.Path.{_≡_};
 ghost use mathlib.Core.List.{_∷_, []};
 ghost use Prim.Native.Nat.{_≤_, _<_, _+_, _-_};
@@ -6,11 +11,37 @@ ghost use lib.ListN.{length};
 ghost use lib.Seq.{slice};
 ghost use Rattle.meaning.specs.Numbers.{twoBytes, leb128};
 ghost use Rattle.leaves.specs.Written.{written};
+ghost use Rattle.leaves.specs.Verdicts.{verdictOf};
 
 // What a call that writes into a lent buffer answers: how many bytes it wrote, or a refusal with its number and place.
 pub enum Made {
     Written { length: usize },
     Refused { number: usize, place: usize },
+}
+
+// What a made shape of so many bytes and levels comes to in a lent buffer of so many bytes: its length, where it can be written, or the refusal.
+pub fn verdict(length: usize, depth: usize, room: usize) -> Made
+    ensures { λ r. ⌜ r ≡ verdictOf length depth room ⌝ }
+{
+    if MAX_LEVELS < depth {
+        return Made::Refused {
+            number: MADE_TOO_DEEP,
+            place: 0,
+        };
+    }
+    if MAX_BYTES < length {
+        return Made::Refused {
+            number: MADE_TOO_LONG,
+            place: 0,
+        };
+    }
+    if room < length {
+        return Made::Refused {
+            number: BUFFER_SHORT,
+            place: length,
+        };
+    }
+    Made::Written { length }
 }
 
 // One byte.

@@ -16,6 +16,9 @@ ghost use Rattle.meaning.specs.Utf8.{sizeWith, charSize, wellFormed};
 ghost use Rattle.leaves.specs.Leb.{lebAt, LebInside};
 ghost use Rattle.leaves.specs.Onward.{Onward};
 
+// A count has two bytes, as has every number of a sheet or a table but kinds.
+pub const COUNT_SIZE: usize = 2;
+
 // A number of two bytes, low first.
 pub fn two_at(s: &[u8], at: usize) -> usize
     requires { ⌜ at + 1 < length (now s) ⌝ }

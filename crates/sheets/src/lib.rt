@@ -1,4 +1,5 @@
 // Sheets, in place (01-scope.md, "Sheets"): the check of a fill sheet, and what an accepted one has for a blank.
+use leaves::COUNT_SIZE;
 use leaves::limits::MAX_BYTES;
 use leaves::limits::MAX_ENCODINGS;
 use leaves::limits::MAX_ENTRIES;
@@ -13,9 +14,6 @@ ghost use Rattle.sheets.specs.Said.{checked};
 ghost use Rattle.sheets.specs.declared.Checked.the-variants.{Sound};
 ghost use Rattle.sheets.specs.Steps.{entryPlace, sumFrom, entriesFrom, encodingsFrom, secondAt};
 ghost use Rattle.sheets.specs.Index.{indexSize, IndexSaid, ReadyIf, entry, sheetIn, PartIs, Ready, EntryIs};
-
-// A count has two bytes, as has every number of a sheet.
-pub const COUNT_SIZE: usize = 2;
 
 // An entry has two numbers of two bytes: the blank's, and the length.
 pub const ENTRY_SIZE: usize = 4;

@@ -1,5 +1,6 @@
 // The checks of a node table, in place (01-scope.md, "Node table"). The bytes of the nodes and the rest, from the links' count on, come as two
 // slices, so that a caller may have the nodes elsewhere.
+use leaves::COUNT_SIZE;
 use leaves::buffer::put_byte;
 use leaves::buffer::put_two;
 use leaves::limits::MAX_LINKS;
@@ -12,9 +13,6 @@ ghost use Rattle.meaning.specs.Limits.{maxNodes, maxLinks, maxNames, maxText};
 ghost use Rattle.meaning.specs.TableReading.{nodeSize, linkSize, nameSize};
 ghost use Rattle.leaves.specs.Written.{written};
 ghost use Rattle.tables.specs.Places.{nodeBytes, linkPlace, namePlace, textPlace, sectionOf, layoutAt, nodeSaid, nodeAt, linkSaid, linkAt, targetKind, Aimed, nameSaid, nameAt, goodBy, goodFrom, goodSpan, goodAt, firstBadNode, firstBadName};
-
-// A count has two bytes, as has every number of a table but kinds.
-pub const COUNT_SIZE: usize = 2;
 
 // The bytes of a node, of a link and of a name.
 pub const NODE_SIZE: usize = 6;

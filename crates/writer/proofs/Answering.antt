@@ -1,6 +1,6 @@
 -- What the writer answers, from what the code finds out.
 --     Found, root-found                                       what is held of the last node is found of what the table means
---     answer-deep, answer-long, answer-short, answer-made     what is answered where this is found
+--     found-comes                                             the verdict where this is found
 --     passed                                                  what 9, 10 and 11 leave
 --     write-section, write-node, write-name, write-made       a table in parts: each refusal, and what is left
 --     write-first                                             a table whose first section is broken
@@ -11,15 +11,17 @@ use mathlib.Core.List.{List}
 use native.Mathlib.Nat.{div-eq-of-eq-mul-right}
 use native.Mathlib.Omega.{arith}
 use lib.ListN.{length, getD}
-use borrow.Author.Tests.{lt-ltb, le-ltb}
-use Rattle.meaning.specs.Limits.{maxNodes, maxBytes, maxLevels}
-use Rattle.meaning.specs.Refusals.{bufferShort, sectionBroken, nodeBroken, nameBroken, madeTooDeep, madeTooLong}
+use Rattle.meaning.specs.Limits.{maxNodes}
+use Rattle.meaning.specs.Refusals.{sectionBroken, nodeBroken, nameBroken}
 use Rattle.meaning.specs.Shape.{Shape, depth}
 use Rattle.meaning.specs.Encode.{encode}
 use Rattle.meaning.specs.Reading.{bad}
 use Rattle.meaning.specs.Table.{shapeOf, tableShape}
 use Rattle.meaning.specs.TableReading.{nodeSize, linksPlace, readTable}
-use Rattle.meaning.specs.Answers.{answered, refused, onto, inRoom, made, writeAnswer}
+use Rattle.meaning.specs.Answers.{refused, onto, writeAnswer}
+use Rattle.leaves.specs.declared.buffer.Made.{Made}
+use Rattle.leaves.specs.Verdicts.{verdictOf}
+use Rattle.leaves.proofs.Verdicts.{Comes, comes}
 use Rattle.tables.specs.declared.Layout.the-variants.{Laid, Broken}
 use Rattle.tables.specs.Places.{textPlace, layoutAt, tableIn, firstBadNode, firstBadName}
 use Rattle.tables.proofs.Turns.{node-within, name-within}
@@ -56,37 +58,9 @@ module _ (nodes rest : List ℕ) (l m count : ℕ) (six : length nodes ≡ nodeS
       let e = shapes-held nodes rest (length nodes / nodeSize) l m _ (sound .whole) (fits nodes rest l m sound) (sound .nodes-good) (sound .names-good) lengths depths (rw nodes-are to) (count - 1) (rw nodes-are (omega arith)) in
       rw root-is (record { bytes = ap (λ (x : Extent). x .length) e; levels = ap (λ (x : Extent). x .depth) e })
 
-module _ {s : Shape} {needed deep : ℕ} (found : Found s needed deep) (room : ℕ) where
-  -- A shape that is too deep is refused,
-  pub answer-deep : maxLevels < deep → made 0 s (inRoom room (encode s)) ≡ refused madeTooDeep 0
-  unfolding made
-  answer-deep h = rw (lt-ltb maxLevels (depth s) (omega arith))
-
-  module _ (d : deep ≤ maxLevels) where
-    -- and then one that is too long,
-    pub answer-long : maxBytes < needed → made 0 s (inRoom room (encode s)) ≡ refused madeTooLong 0
-    unfolding made
-    answer-long h = rw (le-ltb maxLevels (depth s) (omega arith), lt-ltb maxBytes (length (encode s)) (omega arith))
-
-    module _ (n : needed ≤ maxBytes) where
-      -- One that is neither is found as long as it is.
-      pub found-length : length (encode s) ≡ needed
-      found-length = omega arith
-
-      -- What is left is the room.
-      room-left : made 0 s (inRoom room (encode s)) ≡ inRoom room (encode s)
-      unfolding made
-      room-left = rw (le-ltb maxLevels (depth s) (omega arith), le-ltb maxBytes (length (encode s)) (omega arith))
-
-      -- One for which there is no room is refused.
-      pub answer-short : room < needed → made 0 s (inRoom room (encode s)) ≡ refused bufferShort needed
-      unfolding inRoom
-      answer-short h = room-left ∙ rw (found-length, lt-ltb room needed h)
-
-      -- Any other is the answer.
-      pub answer-made : needed ≤ room → made 0 s (inRoom room (encode s)) ≡ answered (encode s)
-      unfolding inRoom
-      answer-made h = room-left ∙ rw (found-length, le-ltb room needed h)
+-- The verdict on what is found is that on the shape.
+pub found-comes : {s : Shape} {needed deep : ℕ} → Found s needed deep → (room : ℕ) {v : Made} → v ≡ verdictOf needed deep room → Comes s room v
+found-comes {s} {needed} {deep} f room = comes s needed deep room (omega (arith, f .bytes)) (omega (arith, f .levels))
 
 module _ (nodes rest : List ℕ) (count : ℕ) (six : length nodes ≡ nodeSize * count) (some : 1 ≤ count) (few : count ≤ maxNodes) (room : ℕ) where
   -- A broken section after the nodes, or bytes left over, are refused at their place.

@@ -1,16 +1,13 @@
 // The writer: from a node table to the encoding of the shape that it means (01-scope.md, "Node table"). The checks come first, then how long and
 // how deep the shape is, found without walking what nodes share; only what is known to fit is written.
 use extents::extents_of;
+use leaves::COUNT_SIZE;
 use leaves::buffer::Made;
 use leaves::buffer::put_byte;
 use leaves::buffer::put_leb;
 use leaves::buffer::put_part;
-use leaves::limits::MAX_BYTES;
-use leaves::limits::MAX_LEVELS;
+use leaves::buffer::verdict;
 use leaves::limits::MAX_NODES;
-use leaves::refusals::BUFFER_SHORT;
-use leaves::refusals::MADE_TOO_DEEP;
-use leaves::refusals::MADE_TOO_LONG;
 use leaves::refusals::NAME_BROKEN;
 use leaves::refusals::NODE_BROKEN;
 use leaves::refusals::SECTION_BROKEN;
@@ -22,7 +19,6 @@ use reader::first::PACKED;
 use reader::first::PACKED_MAPS;
 use reader::first::PRIMITIVES;
 use tables::ARRAY;
-use tables::COUNT_SIZE;
 use tables::FUNCTION;
 use tables::Layout;
 use tables::MAP;
@@ -281,27 +277,13 @@ fn write_sound(
     let mut depths: [u8; 6144] = [0; 6144];
     extents_of(nodes, rest, count, links, names, &mut lengths, &mut depths);
     let root = count - 1;
-    let needed = lengths[root] as usize;
-    if MAX_LEVELS < depths[root] as usize {
-        return Made::Refused {
-            number: MADE_TOO_DEEP,
-            place: 0,
-        };
+    match verdict(lengths[root] as usize, depths[root] as usize, out.len()) {
+        Made::Refused { number, place } => Made::Refused { number, place },
+        Made::Written { length } => {
+            put_node(nodes, rest, links, names, root, out, 0);
+            Made::Written { length }
+        }
     }
-    if MAX_BYTES < needed {
-        return Made::Refused {
-            number: MADE_TOO_LONG,
-            place: 0,
-        };
-    }
-    if out.len() < needed {
-        return Made::Refused {
-            number: BUFFER_SHORT,
-            place: needed,
-        };
-    }
-    let length = put_node(nodes, rest, links, names, root, out, 0);
-    Made::Written { length }
 }
 
 // Writes what a table means whose first section is so many nodes, lent apart from the rest.
