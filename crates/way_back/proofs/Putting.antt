@@ -25,17 +25,17 @@ use Rattle.parts.specs.Steps.{headSize, firstAt, listAt, pastName}
 use Rattle.parts.specs.declared.Listing.{Listing}
 use Rattle.parts.specs.Pass.{Came, came, Passer, passItems, passShape}
 use Rattle.parts.proofs.Passing.{list-items, items-one, items-none}
-use Rattle.way_back.specs.declared.counts.Counts.{Counts}
-use Rattle.way_back.specs.declared.counts.Section.{Section}
+use Rattle.counts.specs.declared.Counts.{Counts}
+use Rattle.counts.specs.declared.Section.{Section}
 use Rattle.way_back.specs.declared.Put.{Put}
 use Rattle.way_back.specs.declared.PutItems.{PutItems}
-use Rattle.way_back.specs.Pieces.{plus, Few, textIn, Piece, Gathered, nothing, noItems, withItem, ownCounts, ownBytes, listPiece, pieces}
-use Rattle.way_back.specs.Puts.{FewAfter, FewOwn, Linked, Wrote, PutIs, PutItemsIs, Room}
-use Rattle.way_back.proofs.Grows.{grows, counted, shapes-grow}
-use Rattle.way_back.proofs.Counting.{part, part-is}
+use Rattle.counts.specs.Pieces.{plus, Few, textIn, Piece, Gathered, nothing, noItems, withItem, ownCounts, ownBytes, listPiece, pieces, Linked}
+use Rattle.way_back.specs.Puts.{FewAfter, FewOwn, Wrote, PutIs, PutItemsIs, Room}
+use Rattle.counts.proofs.Grows.{grows, counted, shapes-grow}
+use Rattle.counts.proofs.Counting.{part, part-is}
 use Rattle.way_back.proofs.Texts.{plus-none}
 use Rattle.way_back.proofs.Wrote.{wrote-none, wrote-after}
-use Rattle.way_back.proofs.Linked.{items-linked, shape-linked}
+use Rattle.counts.proofs.Linked.{items-linked, shape-linked}
 
 -- Counts may be added in any grouping.
 plus-assoc : (a b c : Counts) → plus (plus a b) c ≡ plus a (plus b c)

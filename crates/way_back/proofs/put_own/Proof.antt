@@ -9,7 +9,7 @@ use Prim.Native.Nat.{_≤_}
 use mathlib.Core.Path.{refl, sym, _∙_}
 use lib.ListN.{length}
 use Rattle.parts.proofs.Passing.{items-none}
-use Rattle.way_back.specs.Pieces.{noItems}
+use Rattle.counts.specs.Pieces.{noItems}
 use Rattle.way_back.proofs.Wrote.{wrote-none}
 use Rattle.way_back.proofs.Entries.{no-own}
 use Rattle.way_back.proofs.Owning.{Turn, few-inner, few-sums, item-fits, turn-on}
