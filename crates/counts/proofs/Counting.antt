@@ -4,6 +4,7 @@
 --     Texts, texts-start, texts-turn, texts-end   what the loop over a Symbol's texts keeps, and what it has at the end
 --     Tallied, tally-turn, tally-end              what the loop over a list's items keeps, and what it has at the end
 --     text-few, shape-few, sum-few                where all items add few, so does each sum on the way
+--     IsList, is-list                             at a place stands a list of these items
 --     list-few, list-sum, list-counted            a list, from what its items add
 -- Assumes nothing.
 use mathlib.Core.Path.{_≡_, refl, sym, ap, subst, _∙_}
@@ -33,7 +34,7 @@ use Rattle.counts.specs.declared.Counted.{Counted}
 use Rattle.counts.specs.declared.Tally.{Tally}
 use Rattle.counts.specs.Pieces.{many, none, plus, Few, textFrom, textIn, Piece, Gathered, nothing, noItems, withItem, ownCounts, listPiece, shortPiece, gatherTexts, textsOf, symbolPiece, pieces}
 use Rattle.counts.specs.Counts.{CountedIs, TallyIs, FewItems}
-use Rattle.counts.proofs.Grows.{below-few, grows, counted}
+use Rattle.counts.proofs.Grows.{below-few, grows, items-count}
 
 -- Nothing added to counts leaves them.
 none-plus : (c : Counts) → plus none c ≡ c
@@ -130,9 +131,9 @@ pub record Tallied (inner : Passer Piece) (kind : Kind) (s : List ℕ) (from cou
   pub inside : at ≤ length s
   pub fewer : due ≤ count
 
-module _ (inner : Passer Piece) (kind : Kind) (s : List ℕ) (from count at : ℕ) (counts : Counts) (text due : ℕ) (t : Tallied inner kind s from count at counts text due)
+module _ {inner : Passer Piece} {kind : Kind} {s : List ℕ} {from count at : ℕ} {counts : Counts} {text due : ℕ} (t : Tallied inner kind s from count at counts text due)
     (few : FewItems (passItems pieces inner kind count s from noItems .made)) (pos : 0 < due)
-    (start : ℕ) (is : start ≡ pastName s at kind) (onward : at ≤ start) (within : start ≤ length s) where
+    {start : ℕ} (is : start ≡ pastName s at kind) (onward : at ≤ start) (within : start ≤ length s) where
   -- the items with the next one
   abbrev more : Gathered
   more = withItem (t .a) (slice at start s) (inner s start .made)
@@ -148,21 +149,21 @@ module _ (inner : Passer Piece) (kind : Kind) (s : List ℕ) (from count at : �
       (below-few _ _ (g .counts) (f .0), omega (arith, g .text, f .1))
 
   -- So the text is counted without a loss,
-  pub text-few : (size : ℕ) → size ≡ length (textIn (part at start s)) → text + size < 65536
-  text-few size z = rw (z, t .text-is, part-is at start s onward within) (more-few .1)
+  pub text-few : {size : ℕ} → size ≡ length (textIn (part at start s)) → text + size < 65536
+  text-few z = rw (z, t .text-is, part-is at start s onward within) (more-few .1)
 
   -- what the shape adds is few,
   pub shape-few : Few (inner s start .made .counts)
   shape-few = let f = more-few .0 in (omega (arith, f .0), omega (arith, f .1), omega (arith, f .2), omega (arith, f .3))
 
   -- and so is the sum.
-  pub sum-few : (v : Counted) → CountedIs s v (inner s start) → Few (plus counts (v .counts))
-  sum-few v h = rw (t .counts-are, h .counts-is) (more-few .0)
+  pub sum-few : {v : Counted} → CountedIs s v (inner s start) → Few (plus counts (v .counts))
+  sum-few h = rw (t .counts-are, h .counts-is) (more-few .0)
 
   -- A turn keeps what is kept.
-  pub tally-turn : (size : ℕ) (v : Counted) (r : Counts) → size ≡ length (textIn (part at start s)) → CountedIs s v (inner s start) → r ≡ plus counts (v .counts)
+  pub tally-turn : {size : ℕ} {v : Counted} {r : Counts} → size ≡ length (textIn (part at start s)) → CountedIs s v (inner s start) → r ≡ plus counts (v .counts)
       → Tallied inner kind s from count (v .next) r (text + size) (due - 1)
-  tally-turn size v r z h e = record {
+  tally-turn z h e = record {
     a = more;
     goes = goes-on ∙ rw (h .next-is);
     counts-are = rw (e, t .counts-are, h .counts-is);
@@ -172,39 +173,42 @@ module _ (inner : Passer Piece) (kind : Kind) (s : List ℕ) (from count at : �
   }
 
 -- At the end the items are passed over.
-pub tally-end : (inner : Passer Piece) (kind : Kind) (s : List ℕ) (from count at : ℕ) (counts : Counts) (text due : ℕ) → Tallied inner kind s from count at counts text due → due ≤ 0
+pub tally-end : {inner : Passer Piece} {kind : Kind} {s : List ℕ} {from count at : ℕ} {counts : Counts} {text due : ℕ} → Tallied inner kind s from count at counts text due → due ≤ 0
     → TallyIs s (record { next = at; counts = counts; text = text }) (passItems pieces inner kind count s from noItems)
-tally-end inner kind s from count at counts text due t z =
+tally-end {inner} {kind} {s} {at = at} {due = due} t z =
     rw (t .goes ∙ items-none pieces inner kind s at (t .a) due z)
     (record { next-is = refl; counts-is = t .counts-are; text-is = t .text-is; inside = t .inside })
 
-module _ (left : ℕ) (s : List ℕ) (at : ℕ) (kind : Kind) (first : firstAt s at ≡ Long kind) (shapes : shaped kind ≡ true) (deep : 0 < left) (head : headSize ≤ length s - at)
-    (l : Listing) (is : l ≡ listAt s (at + headSize) kind) where
-  -- the items of a list
-  abbrev items : Came Gathered
-  items = passItems pieces (passShape pieces (left - 1)) kind (l .count) s (l .from) noItems
+-- the items of a list, of which each has one level less
+abbrev pub allOf : ℕ → List ℕ → Kind → Listing → Came Gathered
+allOf left s kind l = passItems pieces (passShape pieces (left - 1)) kind (l .count) s (l .from) noItems
 
-  -- What a list adds is what its items add, and its own.
-  list-by : passShape pieces left s at ≡ came (items .next) (listPiece kind (items .made))
-  list-by = list-items pieces left s at first shapes deep head ∙ rw (← is)
+-- at a place stands a list of the items that l tells of
+pub record IsList (left : ℕ) (s : List ℕ) (at : ℕ) (kind : Kind) (l : Listing) : Type 0 where
+  pub has-shapes : shaped kind ≡ true
+  pub passed : passShape pieces left s at ≡ came (allOf left s kind l .next) (listPiece kind (allOf left s kind l .made))
 
+-- So it is where the first byte is a list's, a level is left for it, and its head is there.
+pub is-list : (left : ℕ) (s : List ℕ) (at : ℕ) (kind : Kind) (l : Listing) → firstAt s at ≡ Long kind → shaped kind ≡ true → 0 < left → headSize ≤ length s - at
+    → l ≡ listAt s (at + headSize) kind → IsList left s at kind l
+is-list left s at kind l h p z k e = record { has-shapes = p; passed = rw (e, list-items pieces left s at h p z k) }
+
+module _ {left : ℕ} {s : List ℕ} {at : ℕ} {kind : Kind} {l : Listing} (m : IsList left s at kind l) where
   -- Where a list adds few, its items do.
-  pub list-few : Few (passShape pieces left s at .made .counts) → FewItems (items .made)
+  pub list-few : Few (passShape pieces left s at .made .counts) → FewItems (allOf left s kind l .made)
   list-few few =
-      let f = rw list-by at few in
+      let f = rw (m .passed) at few in
       ((omega (arith, f .0), omega (arith, f .1), omega (arith, f .2), omega (arith, f .3)), omega (arith, f .3))
 
-  module _ (all : Tally) (own : Counts) (h : TallyIs s all items) (o : own ≡ ownCounts kind (l .count) (all .text)) where
+  module _ {all : Tally} {own : Counts} (h : TallyIs s all (allOf left s kind l)) (o : own ≡ ownCounts kind (l .count) (all .text)) where
     -- Its counts are those of its items, and its own.
     list-counts : plus (all .counts) own ≡ passShape pieces left s at .made .counts
-    list-counts =
-        let n : items .made .items ≡ l .count = counted (passShape pieces (left - 1)) kind s (l .count) (l .from) noItems ∙ zero-add _ in
-        rw (o, list-by, h .counts-is, h .text-is, n)
+    list-counts = rw (o, m .passed, h .counts-is, h .text-is, items-count (passShape pieces (left - 1)) kind s (l .count) (l .from))
 
     -- So they are few, where the list adds few,
     pub list-sum : Few (passShape pieces left s at .made .counts) → Few (plus (all .counts) own)
     list-sum few = subst (λ (c : Counts). Few c) (sym list-counts) few
 
     -- and the list is counted.
-    pub list-counted : (r : Counts) → r ≡ plus (all .counts) own → CountedIs s (record { next = all .next; counts = r }) (passShape pieces left s at)
-    list-counted r e = record { next-is = h .next-is ∙ rw list-by; counts-is = e ∙ list-counts; inside = h .inside }
+    pub list-counted : {r : Counts} → r ≡ plus (all .counts) own → CountedIs s (record { next = all .next; counts = r }) (passShape pieces left s at)
+    list-counted e = record { next-is = h .next-is ∙ rw (m .passed); counts-is = e ∙ list-counts; inside = h .inside }

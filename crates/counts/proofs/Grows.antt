@@ -1,13 +1,13 @@
 -- What the items of a list add grows item by item, so that what is few or has room at the end was so all the way.
 --     Below, below-few     counts that are nowhere larger, and so few
 --     grows                counts, items and texts grow
---     counted              there are as many items as were passed over
+--     items-count          a list has as many items as were passed over
 --     shapes-grow, own-grow     the bytes grow
 -- Assumes nothing.
 use mathlib.Core.Path.{_≡_, sym, _∙_}
 use mathlib.Core.List.{List, _++_}
 use Prim.Native.Nat.{ℕ, zero, suc, _+_, _-_, _≤_, _<_}
-use native.Mathlib.Nat.{add-zero}
+use native.Mathlib.Nat.{add-zero, zero-add}
 use native.Mathlib.Omega.{arith}
 use lib.ListN.{length, length-append}
 use lib.Seq.{slice}
@@ -16,7 +16,7 @@ use Rattle.parts.specs.Steps.{pastName}
 use Rattle.parts.specs.Pass.{Passer, passItems}
 use Rattle.counts.specs.declared.Counts.{Counts}
 use Rattle.counts.specs.declared.Section.{Section}
-use Rattle.counts.specs.Pieces.{Few, Piece, Gathered, textIn, plus, itemEntry, withItem, pieces}
+use Rattle.counts.specs.Pieces.{Few, Piece, Gathered, textIn, plus, itemEntry, noItems, withItem, pieces}
 
 -- counts that are nowhere larger
 pub record Below (a b : Counts) : Type 0 where
@@ -50,12 +50,15 @@ module _ (inner : Passer Piece) (kind : Kind) (s : List ℕ) where
       }
 
   -- There are as many items as were passed over.
-  pub counted : (due at : ℕ) (a : Gathered) → passItems pieces inner kind due s at a .made .items ≡ a .items + due
+  counted : (due at : ℕ) (a : Gathered) → passItems pieces inner kind due s at a .made .items ≡ a .items + due
   unfolding passItems
   counted zero at a = sym (add-zero _)
   counted (suc due) at a =
       let v = inner s (pastName s at kind) in
       let g = counted due (v .next) (withItem a (slice at (pastName s at kind) s) (v .made)) in omega (arith, g)
+
+  pub items-count : (count from : ℕ) → passItems pieces inner kind count s from noItems .made .items ≡ count
+  items-count count from = counted count from noItems ∙ zero-add count
 
   -- The bytes of their shapes grow.
   pub shapes-grow : (section : Section) (before : Counts) (due at : ℕ) (a : Gathered) → length (a .shapes section before) ≤ length (passItems pieces inner kind due s at a .made .shapes section before)

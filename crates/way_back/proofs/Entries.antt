@@ -5,13 +5,13 @@
 --     item-bare      the item of a kind without names is a bare link
 --     no-entry, no-own     a section that has no entries for the items of a list of a kind gets nothing of them
 --     array-bytes, map-bytes     an Array and a Map of primitives, entry by entry
---     own-bytes, items-count     a list's node after the entries for its items, of which there are as many as the list has
+--     own-bytes      a list's node after the entries for its items
 -- Assumes nothing.
-use mathlib.Core.Path.{_≡_, refl, _∙_}
+use mathlib.Core.Path.{_≡_, refl}
 use mathlib.Core.Bool.{true, false}
 use mathlib.Core.List.{List, [], _++_, append-assoc}
 use Prim.Native.Nat.{ℕ, zero, suc, _+_, _-_, _≤_}
-use native.Mathlib.Nat.{add-zero, zero-add}
+use native.Mathlib.Nat.{add-zero}
 use native.Mathlib.Omega.{arith}
 use lib.ListN.{length, length-drop}
 use lib.Seq.{slice, slice-empty, take-length}
@@ -27,10 +27,10 @@ use Rattle.counts.specs.declared.Counts.{Counts}
 use Rattle.counts.specs.declared.Section.{Section}
 use Rattle.counts.specs.declared.Section.the-variants.{Nodes, Links, Names, Text}
 use Rattle.counts.specs.Pieces.{plus, textFrom, textIn, kindNumber, nodeEntry, itemEntry, Piece, Gathered, noItems, ownBytes, listPiece, packedArray, packedMap, pieces, inner}
+use Rattle.counts.proofs.Grows.{items-count}
+use Rattle.counts.proofs.Texted.{text-none}
 use Rattle.way_back.specs.Puts.{hasEntries, bareEntry, Wrote, itemsAt}
 use Rattle.way_back.proofs.Wrote.{wrote-after}
-use Rattle.counts.proofs.Grows.{counted}
-use Rattle.counts.proofs.Texted.{text-none}
 
 -- Two numbers, written one after the other.
 pub pair-wrote : (d e f : List ℕ) (to m n : ℕ) → to + 4 ≤ length d → e ≡ written d to (twoBytes m) → f ≡ written e (to + 2) (twoBytes n)
@@ -91,11 +91,8 @@ module _ (section : Section) (base : Counts) where
       rw (item-bare section Map (base .nodes + 1 - 1) (base .nodes) _ _ refl refl (omega arith), item-bare section Map (base .nodes + 2 - 1) (base .nodes + 1) _ _ refl refl (omega arith), add-zero (base .links))
       (simp append-assoc)
 
--- A list's node stands after the entries for its items.
-pub own-bytes : (section : Section) (kind : Kind) (a : Gathered) (base after : Counts) (number count : ℕ) → after ≡ plus base (a .counts) → number ≡ kindNumber kind → a .items ≡ count
-    → ownBytes section kind a base ≡ a .own section kind base after ++ nodeEntry section number (after .links) count
-own-bytes section kind a base after number count e n i = rw (e, n, ← i)
-
--- The items of a list are as many as it has.
-pub items-count : (left : ℕ) (kind : Kind) (count : ℕ) (s : List ℕ) (from : ℕ) → itemsAt left kind count s from .made .items ≡ count
-items-count left kind count s from = counted (inner left kind) kind s count from noItems ∙ zero-add count
+-- A list's node stands after the entries for its items, of which there are as many as the list has.
+pub own-bytes : (section : Section) (left : ℕ) (kind : Kind) (count : ℕ) (s : List ℕ) (from : ℕ) (base after : Counts) {number : ℕ}
+    → after ≡ plus base (itemsAt left kind count s from .made .counts) → number ≡ kindNumber kind
+    → ownBytes section kind (itemsAt left kind count s from .made) base ≡ itemsAt left kind count s from .made .own section kind base after ++ nodeEntry section number (after .links) count
+own-bytes section left kind count s from base after e n = rw (e, n, items-count (inner left kind) kind s count from)

@@ -19,9 +19,9 @@ use Rattle.counts.specs.declared.Counted.{Counted}
 use Rattle.counts.specs.declared.Section.{Section}
 use Rattle.counts.specs.Pieces.{Few, Gathered, textIn, itemEntry, withItem, pieces, inner}
 use Rattle.counts.specs.Counts.{CountedIs}
-use Rattle.way_back.specs.Puts.{FewOwn, itemsAt, Wrote, Room}
 use Rattle.counts.proofs.Grows.{below-few, grows, own-grow}
 use Rattle.counts.proofs.Counting.{part-is}
+use Rattle.way_back.specs.Puts.{FewOwn, itemsAt, Wrote, Room}
 use Rattle.way_back.proofs.Wrote.{wrote-after}
 
 -- what the loop keeps, of the buffer d that is now e: the items so far are a

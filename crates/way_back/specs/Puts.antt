@@ -12,9 +12,9 @@ use Rattle.parts.specs.Pass.{Came, passItems}
 use Rattle.counts.specs.declared.Counts.{Counts}
 use Rattle.counts.specs.declared.Section.{Section}
 use Rattle.counts.specs.declared.Section.the-variants.{Nodes, Links, Names, Text}
+use Rattle.counts.specs.Pieces.{plus, Few, Piece, Gathered, noItems, pieces, inner}
 use Rattle.way_back.specs.declared.Put.{Put}
 use Rattle.way_back.specs.declared.PutItems.{PutItems}
-use Rattle.counts.specs.Pieces.{plus, Few, Piece, Gathered, noItems, pieces, inner}
 
 -- whether a section gets anything of the items of a list of a kind
 abbrev pub hasEntries : Section → Kind → Bool

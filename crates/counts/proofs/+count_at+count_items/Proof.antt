@@ -9,7 +9,7 @@ use lib.ListN.{length}
 use Rattle.parts.specs.Pass.{passShape}
 use Rattle.parts.proofs.Passing.{shape-none, shape-short, list-deep, list-cut}
 use Rattle.counts.specs.Pieces.{noItems, pieces}
-use Rattle.counts.proofs.Counting.{Tallied, text-few, shape-few, sum-few, tally-turn, tally-end, list-few, list-sum, list-counted}
+use Rattle.counts.proofs.Counting.{Tallied, text-few, shape-few, sum-few, tally-turn, tally-end, IsList, is-list, list-few, list-sum, list-counted}
 use borrow.Fn.Kinds.{In}
 use borrow.Fn.PlainCycle.{Measures, is, falls, and}
 use Rattle.counts.proofs.count_at.Reads as count-at
@@ -117,21 +117,27 @@ module _ (t : ℕ) where
       rw (list-cut pieces (q .args .left) (q .args .s .now) (q .args .at) (sym (f .first-at .ensures .0) ∙ m .kind .given .1) (sym (k .shaped-kind .ensures) ∙ b .if1 .taken) (omega (arith, e .if2 .left)) (x .if3 .taken))
       (record { next-is = refl; counts-is = c .no-counts3 .ensures; inside = q .pre .1 .0 })
 
+  -- a list was found
+  found : (l : count-at-lts.After-list-at (count-at-calls t) (count-at-at t) count-at.Post)
+      → let m = l .before .before .before .before .before .before in let q = m .before .before .before .before in IsList (q .args .left) (q .args .s .now) (q .args .at) (m .kind .given .0 .0) (l .list-at .result)
+  found l =
+      let x = l .before in let e = x .before in let b = e .before in let k = b .before in let m = k .before .before in let f = m .before .before in
+      is-list _ _ _ _ _ (sym (f .first-at .ensures .0) ∙ m .kind .given .1) (sym (k .shaped-kind .ensures) ∙ b .if1 .taken) (omega (arith, e .if2 .left)) (x .if3 .left) (l .list-at .ensures .0)
+
   count-at-count-items-requires : count-at-lts.Need-count-items-requires (count-at-calls t) (count-at-at t) count-at.Post
-  count-at-count-items-requires c κs =
-      let x = c .before in let e = x .before in let b = e .before in let k = b .before in let m = k .before .before in let f = m .before .before in let q = f .before .before in
-      let y = list-few _ _ _ _ (sym (f .first-at .ensures .0) ∙ m .kind .given .1) (sym (k .shaped-kind .ensures) ∙ b .if1 .taken) (omega (arith, e .if2 .left)) (x .if3 .left) _ (c .list-at .ensures .0) (q .pre .1 .3) in
-      (omega (arith, q .pre .0, e .if2 .left, c .list-at .ensures .1 .2), (omega (arith, c .list-at .ensures .1 .1, x .if3 .left), q .pre .1 .1, omega (arith, q .pre .1 .2), c .list-at .ensures .1 .2, y))
+  count-at-count-items-requires l κs =
+      let x = l .before in let q = x .before .before .before .before .before .before .before .before .before in
+      (omega (arith, q .pre .0, x .before .if2 .left, l .list-at .ensures .1 .2), (omega (arith, l .list-at .ensures .1 .1, x .if3 .left), q .pre .1 .1, omega (arith, q .pre .1 .2), l .list-at .ensures .1 .2, list-few (found l) (q .pre .1 .3)))
 
   count-at-plus-requires : count-at-lts.Need-plus-requires (count-at-calls t) (count-at-at t) count-at.Post
   count-at-plus-requires c κs =
-      let w = c .before in let l = w .before in let x = l .before in let e = x .before in let b = e .before in let k = b .before in let m = k .before .before in let f = m .before .before in let q = f .before .before in
-      list-sum _ _ _ _ (sym (f .first-at .ensures .0) ∙ m .kind .given .1) (sym (k .shaped-kind .ensures) ∙ b .if1 .taken) (omega (arith, e .if2 .left)) (x .if3 .left) _ (l .list-at .ensures .0) _ _ (w .count-items .ensures) (c .own-counts .ensures) (q .pre .1 .3)
+      let w = c .before in let l = w .before in
+      list-sum (found l) (w .count-items .ensures) (c .own-counts .ensures) (l .before .before .before .before .before .before .before .before .before .before .pre .1 .3)
 
   count-at-returns-3 : count-at-lts.Need-returns-3 (count-at-calls t) (count-at-at t) count-at.Post
   count-at-returns-3 c =
-      let u = c .before in let w = u .before in let l = w .before in let x = l .before in let e = x .before in let b = e .before in let k = b .before in let m = k .before .before in let f = m .before .before in let q = f .before .before in
-      list-counted _ _ _ _ (sym (f .first-at .ensures .0) ∙ m .kind .given .1) (sym (k .shaped-kind .ensures) ∙ b .if1 .taken) (omega (arith, e .if2 .left)) (x .if3 .left) _ (l .list-at .ensures .0) _ _ (w .count-items .ensures) (u .own-counts .ensures) _ (c .plus .ensures)
+      let u = c .before in let w = u .before in
+      list-counted (found (w .before)) (w .count-items .ensures) (u .own-counts .ensures) (c .plus .ensures)
 
   count-at-count-plain-requires : count-at-lts.Need-count-plain-requires (count-at-calls t) (count-at-at t) count-at.Post
   count-at-count-plain-requires c κs =
@@ -159,34 +165,34 @@ module _ (t : ℕ) where
   count-items-loop-holds c =
       record { a = noItems; goes = refl; counts-are = c .no-counts .ensures; text-is = refl; inside = c .before .before .pre .1 .0; fewer = omega arith }
 
+  -- where the name ends is inside
+  named-inside : (n : count-items-lts.After-past-name (count-items-calls t) (count-items-at t) count-items.Post count-items-Inv-loop count-items-μ-loop) → n .past-name .result ≤ length (n .before .before .before .before .before .args .s .now)
+  named-inside n = omega (arith, n .past-name .ensures .1 .1, n .before .before .loop .inv .inside)
+
   count-items-add-text : count-items-lts.Need-add-text (count-items-calls t) (count-items-at t) count-items.Post count-items-Inv-loop count-items-μ-loop
   count-items-add-text c =
       let n = c .before .before in let o = n .before .before in let q = o .before .before .before in
-      let i : n .past-name .result ≤ length (q .args .s .now) = omega (arith, n .past-name .ensures .1 .1, o .loop .inv .inside) in
-      let y = text-few _ _ _ _ _ _ _ _ _ (o .loop .inv) (q .pre .1 .4) (n .before .loop-test .taken) _ (n .past-name .ensures .0) (n .past-name .ensures .1 .0) i _ (c .text-size .ensures) in
+      let y = text-few (o .loop .inv) (q .pre .1 .4) (n .before .loop-test .taken) (n .past-name .ensures .0) (n .past-name .ensures .1 .0) (named-inside n) (c .text-size .ensures) in
       record { fits = omega arith }
 
   count-items-count-at-requires : count-items-lts.Need-count-at-requires (count-items-calls t) (count-items-at t) count-items.Post count-items-Inv-loop count-items-μ-loop
   count-items-count-at-requires c κs =
       let n = c .before .before in let o = n .before .before in let q = o .before .before .before in
-      let i : n .past-name .result ≤ length (q .args .s .now) = omega (arith, n .past-name .ensures .1 .1, o .loop .inv .inside) in
-      let y = shape-few _ _ _ _ _ _ _ _ _ (o .loop .inv) (q .pre .1 .4) (n .before .loop-test .taken) _ (n .past-name .ensures .0) (n .past-name .ensures .1 .0) i in
-      (omega (arith, q .pre .0, n .before .loop-test .taken, o .loop .inv .fewer), (i, q .pre .1 .1, q .pre .1 .2, y))
+      let y = shape-few (o .loop .inv) (q .pre .1 .4) (n .before .loop-test .taken) (n .past-name .ensures .0) (n .past-name .ensures .1 .0) (named-inside n) in
+      (omega (arith, q .pre .0, n .before .loop-test .taken, o .loop .inv .fewer), (named-inside n, q .pre .1 .1, q .pre .1 .2, y))
 
   count-items-plus-requires : count-items-lts.Need-plus-requires (count-items-calls t) (count-items-at t) count-items.Post count-items-Inv-loop count-items-μ-loop
   count-items-plus-requires c κs =
       let n = c .before .before .before in let o = n .before .before in let q = o .before .before .before in
-      let i : n .past-name .result ≤ length (q .args .s .now) = omega (arith, n .past-name .ensures .1 .1, o .loop .inv .inside) in
-      sum-few _ _ _ _ _ _ _ _ _ (o .loop .inv) (q .pre .1 .4) (n .before .loop-test .taken) _ (n .past-name .ensures .0) (n .past-name .ensures .1 .0) i _ (c .count-at .ensures)
+      sum-few (o .loop .inv) (q .pre .1 .4) (n .before .loop-test .taken) (n .past-name .ensures .0) (n .past-name .ensures .1 .0) (named-inside n) (c .count-at .ensures)
 
   count-items-loop-again : count-items-lts.Need-loop-again (count-items-calls t) (count-items-at t) count-items.Post count-items-Inv-loop count-items-μ-loop
   count-items-loop-again c =
       let w = c .before in let p = w .before in let n = p .before .before in let o = n .before .before in let q = o .before .before .before in
-      let i : n .past-name .result ≤ length (q .args .s .now) = omega (arith, n .past-name .ensures .1 .1, o .loop .inv .inside) in
-      tally-turn _ _ _ _ _ _ _ _ _ (o .loop .inv) (q .pre .1 .4) (n .before .loop-test .taken) _ (n .past-name .ensures .0) (n .past-name .ensures .1 .0) i _ _ _ (p .text-size .ensures) (w .count-at .ensures) (c .plus .ensures)
+      tally-turn (o .loop .inv) (q .pre .1 .4) (n .before .loop-test .taken) (n .past-name .ensures .0) (n .past-name .ensures .1 .0) (named-inside n) (p .text-size .ensures) (w .count-at .ensures) (c .plus .ensures)
 
   count-items-returns : count-items-lts.Need-returns (count-items-calls t) (count-items-at t) count-items.Post count-items-Inv-loop count-items-μ-loop
-  count-items-returns c = tally-end _ _ _ _ _ _ _ _ _ (c .before .loop .inv) (c .loop-test .left)
+  count-items-returns c = tally-end (c .before .loop .inv) (c .loop-test .left)
 
 pub +count-at+count-items-spec : {M : Type 1} → statement M
 +count-at+count-items-spec =

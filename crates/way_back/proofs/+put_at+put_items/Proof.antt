@@ -10,7 +10,8 @@ use Rattle.parts.specs.Pass.{passShape}
 use Rattle.parts.proofs.Passing.{shape-none, shape-short, list-deep, list-cut}
 use Rattle.counts.specs.Pieces.{pieces}
 use Rattle.counts.proofs.Linked.{shape-linked}
-use Rattle.way_back.proofs.Putting.{put-none, Turn, turn-first, turn-few, turn-room, turn-text, turn-on, turn-end, IsList, is-list, list-few, own-few, items-room, own-room, sum-few, list-put}
+use Rattle.counts.proofs.Counting.{IsList, is-list}
+use Rattle.way_back.proofs.Putting.{put-none, Turn, turn-first, turn-few, turn-room, turn-text, turn-on, turn-end, list-few, own-few, items-room, own-room, sum-few, list-put}
 use borrow.Fn.Kinds.{In}
 use borrow.Fn.PlainCycle.{Measures, is, falls, and}
 use Rattle.way_back.proofs.put_at.Reads as put-at
