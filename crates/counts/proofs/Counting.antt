@@ -14,11 +14,10 @@ use Prim.Native.Nat.{ℕ, zero, suc, _+_, _-_, _≤_, _<_}
 use native.Mathlib.Nat.{zero-add}
 use native.Mathlib.Numerals.{sub-one}
 use native.Mathlib.Omega.{arith}
-use lib.Dec.{ltb, leb}
+use lib.Dec.{leb}
 use lib.ListN.{length, take, drop, length-drop}
-use lib.Seq.{slice, length-slice, take-length, drop-nil}
-use borrow.Author.Tests.{le-ltb, lt-ltb}
-use Rattle.meaning.proofs.Rules.{rule, facts}
+use lib.Seq.{slice, length-slice, take-length}
+use Rattle.meaning.proofs.Rules.{facts}
 use Rattle.meaning.proofs.Window.{window-take}
 use Rattle.leaves.proofs.Numbers.{steps, leb-steps}
 use Rattle.reader.specs.Walk.{shaped}
@@ -32,7 +31,7 @@ use Rattle.parts.proofs.Passing.{list-items, items-one, items-none}
 use Rattle.counts.specs.declared.Counts.{Counts}
 use Rattle.counts.specs.declared.Counted.{Counted}
 use Rattle.counts.specs.declared.Tally.{Tally}
-use Rattle.counts.specs.Pieces.{many, none, plus, Few, textFrom, textIn, Piece, Gathered, nothing, noItems, withItem, ownCounts, listPiece, shortPiece, gatherTexts, textsOf, symbolPiece, pieces}
+use Rattle.counts.specs.Pieces.{none, plus, Few, textFrom, textIn, Piece, Gathered, nothing, noItems, withItem, ownCounts, listPiece, gatherTexts, textsOf, symbolPiece, pieces}
 use Rattle.counts.specs.Counts.{CountedIs, TallyIs, FewItems}
 use Rattle.counts.proofs.Grows.{below-few, grows, items-count}
 

@@ -1,25 +1,25 @@
 -- The pass over an encoding makes of every shape what that shape adds to a table.
 --     pieces-making     it makes what it should of what it meets
 -- Assumes nothing.
-use mathlib.Core.Path.{_≡_, refl, ap, ap₂, _∙_}
-use mathlib.Core.List.{List, [], _∷_, _++_, append-assoc, append-nil}
-use Prim.Native.Nat.{ℕ, _+_, _*_, _-_, _/_, _%_, _≤_, _<_}
+use mathlib.Core.Path.{_≡_, refl, ap, ap₂}
+use mathlib.Core.List.{List, [], _∷_, _++_}
+use Prim.Native.Nat.{ℕ, _+_, _-_, _≤_}
 use native.Mathlib.Omega.{arith}
 use native.Mathlib.Nat.{add-zero}
 use lib.ListN.{length, length-append}
 use Rattle.meaning.specs.Numbers.{leb128, twoBytes}
 use Rattle.meaning.specs.Shape.{Text, Tree, fields, parameters, Shape, noFields, field, noParameters, parameter, symbolOf}
-use Rattle.meaning.specs.FirstByte.{code, shortBlanks, primByte, arrayByte, mapByte, kindByte, symbol, Class, whole, packed, long, unassigned, classOf}
+use Rattle.meaning.specs.FirstByte.{kindByte, symbol, Class, whole, packed, long, unassigned, classOf}
 use Rattle.meaning.specs.Encode.{textBytes, textsBytes, encode}
 use Rattle.meaning.specs.Parts.{bare, lone, fieldItems, parameterItems, nameBytes}
 use Rattle.meaning.specs.Parts as Parts
 use Rattle.meaning.proofs.Sound.{by-class}
 use Rattle.meaning.proofs.Complete.{code-small, leb-pos, texts-le}
 use Rattle.reader.specs.declared.first.Kind.the-variants.{Array, Map, Record, Function, Symbol}
-use Rattle.parts.specs.Steps.{listing, listAt}
+use Rattle.parts.specs.Steps.{listAt}
 use Rattle.parts.proofs.Places.{Stands, stands-length, stands-after, leb-at, of-lone, past-name}
 use Rattle.parts.proofs.Passed.{stands-slice, gathered, Making}
-use Rattle.counts.specs.Pieces.{Piece, Gathered, nothing, single, noItems, withItem, listPiece, packedArray, packedMap, shortPiece, gatherTexts, textsOf, symbolPiece, pieces}
+use Rattle.counts.specs.Pieces.{Gathered, nothing, single, noItems, withItem, listPiece, packedArray, packedMap, shortPiece, gatherTexts, symbolPiece, pieces}
 use Rattle.counts.proofs.OfShapes.{withTexts, pieceOf}
 use Rattle.counts.proofs.Shorts.{short-blank, short-prim, short-array, short-map}
 
