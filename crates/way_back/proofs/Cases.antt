@@ -25,12 +25,11 @@ use Rattle.reader.specs.declared.Judgement.the-variants.{Accepted, Refused}
 use Rattle.reader.specs.Said.{said}
 use Rattle.parts.specs.Pass.{came, passShape}
 use Rattle.parts.proofs.Passed.{pass-whole}
-use Rattle.way_back.specs.declared.counts.Counts.{Counts}
-use Rattle.way_back.specs.Pieces.{Few, pieces}
-use Rattle.way_back.specs.Puts.{tableSize, sections}
-use Rattle.way_back.proofs.OfShapes.{pieceOf}
-use Rattle.way_back.proofs.Making.{pieces-making}
-use Rattle.way_back.proofs.Grown.{table-sections, table-needs, table-few}
+use Rattle.counts.specs.declared.Counts.{Counts}
+use Rattle.counts.specs.Pieces.{Few, pieces, tableSize, sections}
+use Rattle.counts.proofs.OfShapes.{pieceOf}
+use Rattle.counts.proofs.Making.{pieces-making}
+use Rattle.counts.proofs.Grown.{table-sections, table-needs, table-few}
 
 -- an input that is the encoding of a shape within the limits
 pub record Found (s : List ℕ) : Type 0 where

@@ -1,14 +1,6 @@
-pub mod OfShapes
-pub mod Grows
-pub mod Making
-pub mod Texted
-pub mod Gathers
-pub mod Grown
-pub mod Counting
 pub mod Wrote
 pub mod Entries
 pub mod Texts
 pub mod Owning
-pub mod Linked
 pub mod Putting
 pub mod Cases

@@ -14,13 +14,14 @@ use Rattle.reader.specs.declared.first.Kind.{Kind}
 use Rattle.parts.specs.Steps.{pastName}
 use Rattle.parts.specs.Pass.{passItems}
 use Rattle.parts.proofs.Passing.{items-one}
-use Rattle.way_back.specs.declared.counts.Counts.{Counts}
-use Rattle.way_back.specs.declared.counts.Counted.{Counted}
-use Rattle.way_back.specs.declared.counts.Section.{Section}
-use Rattle.way_back.specs.Pieces.{Few, Gathered, textIn, itemEntry, withItem, pieces, inner}
-use Rattle.way_back.specs.Puts.{CountedIs, FewOwn, itemsAt, Wrote, Room}
-use Rattle.way_back.proofs.Grows.{below-few, grows, own-grow}
-use Rattle.way_back.proofs.Counting.{part-is}
+use Rattle.counts.specs.declared.Counts.{Counts}
+use Rattle.counts.specs.declared.Counted.{Counted}
+use Rattle.counts.specs.declared.Section.{Section}
+use Rattle.counts.specs.Pieces.{Few, Gathered, textIn, itemEntry, withItem, pieces, inner}
+use Rattle.counts.specs.Counts.{CountedIs}
+use Rattle.counts.proofs.Grows.{below-few, grows, own-grow}
+use Rattle.counts.proofs.Counting.{part-is}
+use Rattle.way_back.specs.Puts.{FewOwn, itemsAt, Wrote, Room}
 use Rattle.way_back.proofs.Wrote.{wrote-after}
 
 -- what the loop keeps, of the buffer d that is now e: the items so far are a

@@ -4,7 +4,6 @@
 --     turn-few, turn-text    where what the whole list adds is few, what an item's shape adds is after those before it, and so are the texts
 --     turn-room, turn-on     the shape has room, and with it written the loop goes on
 --     turn-end               at the end the shapes of all items are written
---     IsList, is-list        at a place stands a list of these items
 --     list-few               where what a list adds is few, what its items add is after those before it
 --     own-few, sum-few       so is what its node's entries say, and what is there after them
 --     items-room, own-room   the items' shapes have room, and the node's entries after them
@@ -12,30 +11,27 @@
 -- Assumes nothing.
 use mathlib.Core.Path.{_≡_, refl, sym, subst, _∙_}
 use mathlib.Core.List.{List}
-use mathlib.Core.Bool.{true}
 use Prim.Native.Nat.{ℕ, _+_, _-_, _≤_, _<_}
-use native.Mathlib.Nat.{add-assoc, zero-add}
+use native.Mathlib.Nat.{add-assoc}
 use native.Mathlib.Omega.{arith}
 use lib.ListN.{length, length-append}
 use lib.Seq.{slice}
-use Rattle.reader.specs.Walk.{shaped}
 use Rattle.reader.specs.declared.first.Kind.{Kind}
-use Rattle.reader.specs.declared.first.First.the-variants.{Long}
-use Rattle.parts.specs.Steps.{headSize, firstAt, listAt, pastName}
+use Rattle.parts.specs.Steps.{pastName}
 use Rattle.parts.specs.declared.Listing.{Listing}
 use Rattle.parts.specs.Pass.{Came, came, Passer, passItems, passShape}
-use Rattle.parts.proofs.Passing.{list-items, items-one, items-none}
-use Rattle.way_back.specs.declared.counts.Counts.{Counts}
-use Rattle.way_back.specs.declared.counts.Section.{Section}
+use Rattle.parts.proofs.Passing.{items-one, items-none}
+use Rattle.counts.specs.declared.Counts.{Counts}
+use Rattle.counts.specs.declared.Section.{Section}
+use Rattle.counts.specs.Pieces.{plus, Few, textIn, Piece, Gathered, nothing, noItems, withItem, ownCounts, ownBytes, pieces, Linked}
+use Rattle.counts.proofs.Grows.{grows, items-count, shapes-grow}
+use Rattle.counts.proofs.Counting.{part, part-is, allOf, IsList}
+use Rattle.counts.proofs.Linked.{items-linked, shape-linked}
 use Rattle.way_back.specs.declared.Put.{Put}
 use Rattle.way_back.specs.declared.PutItems.{PutItems}
-use Rattle.way_back.specs.Pieces.{plus, Few, textIn, Piece, Gathered, nothing, noItems, withItem, ownCounts, ownBytes, listPiece, pieces}
-use Rattle.way_back.specs.Puts.{FewAfter, FewOwn, Linked, Wrote, PutIs, PutItemsIs, Room}
-use Rattle.way_back.proofs.Grows.{grows, counted, shapes-grow}
-use Rattle.way_back.proofs.Counting.{part, part-is}
+use Rattle.way_back.specs.Puts.{FewAfter, FewOwn, Wrote, PutIs, PutItemsIs, Room}
 use Rattle.way_back.proofs.Texts.{plus-none}
 use Rattle.way_back.proofs.Wrote.{wrote-none, wrote-after}
-use Rattle.way_back.proofs.Linked.{items-linked, shape-linked}
 
 -- Counts may be added in any grouping.
 plus-assoc : (a b c : Counts) → plus (plus a b) c ≡ plus a (plus b c)
@@ -125,20 +121,6 @@ turn-end {inner = inner} {kind = kind} {s = s} {at = at} {due = due} t z =
     rw (t .goes ∙ items-none pieces inner kind s at (t .a) due z)
     (record { wrote = t .wrote; next-is = refl; there-is = t .there-is; text-is = t .text-is; inside = t .inside })
 
--- the items of a list, of which each has one level less
-abbrev pub allOf : ℕ → List ℕ → Kind → Listing → Came Gathered
-allOf left s kind l = passItems pieces (passShape pieces (left - 1)) kind (l .count) s (l .from) noItems
-
--- at a place stands a list of the items that l tells of
-pub record IsList (left : ℕ) (s : List ℕ) (at : ℕ) (kind : Kind) (l : Listing) : Type 0 where
-  pub has-shapes : shaped kind ≡ true
-  pub passed : passShape pieces left s at ≡ came (allOf left s kind l .next) (listPiece kind (allOf left s kind l .made))
-
--- So it is where the first byte is a list's, a level is left for it, and its head is there.
-pub is-list : (left : ℕ) (s : List ℕ) (at : ℕ) (kind : Kind) (l : Listing) → firstAt s at ≡ Long kind → shaped kind ≡ true → 0 < left → headSize ≤ length s - at
-    → l ≡ listAt s (at + headSize) kind → IsList left s at kind l
-is-list left s at kind l h p z k e = record { has-shapes = p; passed = rw (e, list-items pieces left s at h p z k) }
-
 module _ {left : ℕ} {s : List ℕ} {at : ℕ} {kind : Kind} {l : Listing} (m : IsList left s at kind l) (base : Counts) where
   -- the items
   abbrev all : Gathered
@@ -175,8 +157,7 @@ module _ {left : ℕ} {s : List ℕ} {at : ℕ} {kind : Kind} {l : Listing} (m :
     -- What is there after them is what the list adds to what was there before.
     sum-is : plus (r .there) own ≡ plus base (passShape pieces left s at .made .counts)
     sum-is =
-        let n : all .items ≡ l .count = counted (passShape pieces (left - 1)) kind s (l .count) (l .from) noItems ∙ zero-add _ in
-        rw (is-own, v .there-is, v .text-is, m .passed, n) (plus-assoc base (all .counts) (ownCounts kind (l .count) (all .text)))
+        rw (is-own, v .there-is, v .text-is, m .passed, items-count (passShape pieces (left - 1)) kind s (l .count) (l .from)) (plus-assoc base (all .counts) (ownCounts kind (l .count) (all .text)))
 
     -- So it is few,
     pub sum-few : Few (plus base (passShape pieces left s at .made .counts)) → Few (plus (r .there) own)

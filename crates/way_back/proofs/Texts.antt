@@ -1,4 +1,4 @@
--- Laws of a Symbol's texts (specs/Pieces.antt, `gatherTexts`).
+-- Laws of a Symbol's texts (counts/specs/Pieces.antt, `gatherTexts`).
 --     texts-items      the texts are items without shapes
 --     texts-counts, texts-shapes     such items have no counts and no bytes of their own
 --     plus-none        nothing more changes no counts
@@ -9,7 +9,7 @@
 use mathlib.Core.Path.{_≡_, refl, sym}
 use mathlib.Core.Bool.{true, false}
 use mathlib.Core.List.{List, []}
-use Prim.Native.Nat.{ℕ, zero, suc, _+_, _-_, _≤_, _<_}
+use Prim.Native.Nat.{ℕ, zero, suc, _-_, _≤_, _<_}
 use native.Mathlib.Nat.{add-zero}
 use native.Mathlib.Omega.{arith}
 use lib.ListN.{length, take, drop}
@@ -25,11 +25,11 @@ use Rattle.parts.specs.declared.Listing.{Listing}
 use Rattle.parts.specs.Steps.{headSize, firstAt, pastLong, pastName, listAt}
 use Rattle.parts.specs.Pass.{passItems, passShape}
 use Rattle.parts.proofs.Passing.{shape-symbol}
-use Rattle.way_back.specs.declared.counts.Counts.{Counts}
-use Rattle.way_back.specs.declared.counts.Section.{Section}
-use Rattle.way_back.specs.Pieces.{none, plus, Few, nodeEntry, nothing, Gathered, noItems, withItem, ownBytes, listPiece, gatherTexts, symbolPiece, pieces, inner}
+use Rattle.counts.specs.declared.Counts.{Counts}
+use Rattle.counts.specs.declared.Section.{Section}
+use Rattle.counts.specs.Pieces.{none, plus, Few, nodeEntry, nothing, Gathered, noItems, withItem, ownBytes, listPiece, gatherTexts, symbolPiece, pieces, inner}
+use Rattle.counts.proofs.Counting.{part-is}
 use Rattle.way_back.specs.Puts.{FewOwn, itemsAt}
-use Rattle.way_back.proofs.Counting.{part-is}
 
 module _ (w : List ℕ) where
   -- The texts are items without shapes.

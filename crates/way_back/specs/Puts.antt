@@ -1,39 +1,36 @@
 -- What the private functions do, by places in the encoding s and in the lent buffer. No public contract cites it.
-use Prim.Native.Nat.{ℕ, _+_, _*_, _≤_, _<_}
+use Prim.Native.Nat.{ℕ, _+_, _≤_, _<_}
 use mathlib.Core.Path.{_≡_}
-use mathlib.Core.List.{List, _++_}
+use mathlib.Core.Bool.{Bool, true, false}
+use mathlib.Core.List.{List, [], _++_}
 use lib.ListN.{length}
 use Rattle.meaning.specs.Numbers.{twoBytes}
 use Rattle.leaves.specs.Written.{written}
+use Rattle.reader.specs.Walk.{named}
 use Rattle.reader.specs.declared.first.Kind.{Kind}
 use Rattle.parts.specs.Pass.{Came, passItems}
-use Rattle.way_back.specs.declared.counts.Counts.{Counts}
-use Rattle.way_back.specs.declared.counts.Section.{Section}
-use Rattle.way_back.specs.declared.counts.Section.the-variants.{Nodes, Links, Names, Text}
-use Rattle.way_back.specs.declared.counts.Counted.{Counted}
-use Rattle.way_back.specs.declared.counts.Tally.{Tally}
+use Rattle.counts.specs.declared.Counts.{Counts}
+use Rattle.counts.specs.declared.Section.{Section}
+use Rattle.counts.specs.declared.Section.the-variants.{Nodes, Links, Names, Text}
+use Rattle.counts.specs.Pieces.{plus, Few, Piece, Gathered, noItems, pieces, inner}
 use Rattle.way_back.specs.declared.Put.{Put}
 use Rattle.way_back.specs.declared.PutItems.{PutItems}
-use Rattle.way_back.specs.Pieces.{none, plus, Few, Piece, Gathered, noItems, pieces, inner}
 
--- what was counted of a shape is what the pass makes of it, and the place after it is inside
-pub record CountedIs (s : List ℕ) (r : Counted) (v : Came Piece) : Type 0 where
-  pub next-is : r .next ≡ v .next
-  pub counts-is : r .counts ≡ v .made .counts
-  pub inside : r .next ≤ length s
+-- whether a section gets anything of the items of a list of a kind
+abbrev pub hasEntries : Section → Kind → Bool
+hasEntries Nodes kind = false
+hasEntries Links kind = true
+hasEntries Names kind = named kind
+hasEntries Text kind = named kind
 
--- so of the items of a list
-pub record TallyIs (s : List ℕ) (r : Tally) (v : Came Gathered) : Type 0 where
-  pub next-is : r .next ≡ v .next
-  pub counts-is : r .counts ≡ v .made .counts
-  pub text-is : r .text ≡ v .made .text
-  pub inside : r .next ≤ length s
+-- a link without a name
+abbrev pub bareEntry : Section → ℕ → List ℕ
+bareEntry Nodes target = []
+bareEntry Links target = twoBytes target ++ twoBytes 0
+bareEntry Names target = []
+bareEntry Text target = []
 
--- what the items of a list add is few
-abbrev pub FewItems : Gathered → Type 0
-FewItems a = Few (a .counts) × (a .text < 65536)
-
--- so where so many are there before the list
+-- what the items of a list add is few, where so many are there before the list
 abbrev pub FewAfter : Counts → Gathered → Type 0
 FewAfter base a = Few (plus base (a .counts)) × (a .text < 65536)
 
@@ -41,10 +38,6 @@ FewAfter base a = Few (plus base (a .counts)) × (a .text < 65536)
 abbrev pub FewOwn : Counts → Counts → Gathered → Type 0
 FewOwn base after a =
     Few (a .counts) × (base .nodes + a .counts .nodes < 65536) × (after .names + a .items < 65536) × (after .text + a .text < 65536)
-
--- each name stands beside a link, so the names are no more than the links
-abbrev pub Linked : Counts → Type 0
-Linked c = c .names ≤ c .links
 
 -- the items of a list, of which each is a shape or a text
 abbrev pub itemsAt : ℕ → Kind → ℕ → List ℕ → ℕ → Came Gathered
@@ -73,15 +66,3 @@ pub record PutItemsIs (section : Section) (s : List ℕ) (base : Counts) (d e : 
 
 abbrev pub Room : ℕ → ℕ → List ℕ → Type 0
 Room room to w = to + length w ≤ room
-
--- how many bytes a table of so many entries has
-abbrev pub tableSize : Counts → ℕ
-tableSize c = 4 * 2 + 6 * c .nodes + 4 * c .links + 4 * c .names + c .text
-
--- the bytes of a table: each section after its count
-abbrev pub sections : Piece → List ℕ
-sections v =
-    (twoBytes (v .counts .nodes) ++ v .bytes Nodes none)
-    ++ ((twoBytes (v .counts .links) ++ v .bytes Links none)
-    ++ ((twoBytes (v .counts .names) ++ v .bytes Names none)
-    ++ (twoBytes (v .counts .text) ++ v .bytes Text none)))

@@ -1,7 +1,5 @@
 // The way back: from an encoding to the node table of its shape (01-scope.md, "Node table"). Nothing is shared: children first, then the node. The
 // entries are counted first, so a refusal has written nothing; then each section is written by a pass of its own.
-pub mod counts;
-
 use counts::Counts;
 use counts::Section;
 use counts::count_at;
@@ -50,8 +48,8 @@ ghost use Rattle.reader.specs.declared.first.Kind.the-variants.{Array, Map};
 ghost use Rattle.reader.specs.Walk.{shaped};
 ghost use Rattle.parts.specs.Steps.{firstAt};
 ghost use Rattle.parts.specs.Pass.{passItems, passShape};
-ghost use Rattle.way_back.specs.Pieces.{none, plus, Few, textIn, kindNumber, nodeEntry, linkEntry, nameEntry, itemEntry, hasEntries, bareEntry, noItems, packedArray, packedMap, ownBytes, listPiece, shortPiece, symbolPiece, pieces};
-ghost use Rattle.way_back.specs.Puts.{FewAfter, FewOwn, itemsAt, Wrote, PutIs, PutItemsIs, Room, Linked, tableSize, sections};
+ghost use Rattle.counts.specs.Pieces.{none, plus, Few, textIn, kindNumber, nodeEntry, linkEntry, nameEntry, itemEntry, noItems, packedArray, packedMap, ownBytes, listPiece, shortPiece, symbolPiece, pieces, Linked, tableSize, sections};
+ghost use Rattle.way_back.specs.Puts.{hasEntries, bareEntry, FewAfter, FewOwn, itemsAt, Wrote, PutIs, PutItemsIs, Room};
 
 // The number of a kind in a table.
 fn kind_number(kind: Kind) -> u8

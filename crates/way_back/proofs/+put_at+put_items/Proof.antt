@@ -8,9 +8,10 @@ use mathlib.Core.Path.{refl, sym, _∙_}
 use lib.ListN.{length}
 use Rattle.parts.specs.Pass.{passShape}
 use Rattle.parts.proofs.Passing.{shape-none, shape-short, list-deep, list-cut}
-use Rattle.way_back.specs.Pieces.{pieces}
-use Rattle.way_back.proofs.Linked.{shape-linked}
-use Rattle.way_back.proofs.Putting.{put-none, Turn, turn-first, turn-few, turn-room, turn-text, turn-on, turn-end, IsList, is-list, list-few, own-few, items-room, own-room, sum-few, list-put}
+use Rattle.counts.specs.Pieces.{pieces}
+use Rattle.counts.proofs.Linked.{shape-linked}
+use Rattle.counts.proofs.Counting.{IsList, is-list}
+use Rattle.way_back.proofs.Putting.{put-none, Turn, turn-first, turn-few, turn-room, turn-text, turn-on, turn-end, list-few, own-few, items-room, own-room, sum-few, list-put}
 use borrow.Fn.Kinds.{In}
 use borrow.Fn.PlainCycle.{Measures, is, falls, and}
 use Rattle.way_back.proofs.put_at.Reads as put-at
@@ -23,11 +24,11 @@ use Rattle.parts.proofs.first_at.Reads as first-at-reads
 use Rattle.parts.proofs.list_at.Reads as list-at-reads
 use Rattle.parts.proofs.past_name.Reads as past-name-reads
 use Rattle.reader.proofs.payload.shaped_kind.Reads as shaped-kind-reads
-use Rattle.way_back.proofs.counts.count_plain.Reads as count-plain-reads
-use Rattle.way_back.proofs.counts.own_counts.Reads as own-counts-reads
-use Rattle.way_back.proofs.counts.plus.Reads as plus-reads
-use Rattle.way_back.proofs.counts.short_counts.Reads as short-counts-reads
-use Rattle.way_back.proofs.counts.text_size.Reads as text-size-reads
+use Rattle.counts.proofs.count_plain.Reads as count-plain-reads
+use Rattle.counts.proofs.own_counts.Reads as own-counts-reads
+use Rattle.counts.proofs.plus.Reads as plus-reads
+use Rattle.counts.proofs.short_counts.Reads as short-counts-reads
+use Rattle.counts.proofs.text_size.Reads as text-size-reads
 use Rattle.way_back.proofs.put_list.Reads as put-list-reads
 use Rattle.way_back.proofs.put_plain.Reads as put-plain-reads
 use Rattle.way_back.proofs.put_short.Reads as put-short-reads

@@ -4,9 +4,8 @@ use borrow.Author.Needs.{needs}
 use native.Mathlib.Omega.{arith}
 use mathlib.Core.Path.{refl}
 use lib.ListN.{length-append}
-use Rattle.way_back.specs.Puts.{itemsAt}
 use Rattle.way_back.proofs.Wrote.{wrote-after}
-use Rattle.way_back.proofs.Entries.{own-bytes, items-count}
+use Rattle.way_back.proofs.Entries.{own-bytes}
 use Rattle.way_back.proofs.put_list.Statement.{statement}
 use Rattle.way_back.proofs.put_list.Tie as tie
 
@@ -14,8 +13,7 @@ put-own-requires : tie.Need-put-own-requires
 put-own-requires c κs =
     let q = c .before .before .before in
     let a = q .args in
-    let i = items-count (a .left) (a .kind) (a .count) (a .s .now) (a .from) in
-    let h = rw (own-bytes (a .section) (a .kind) (itemsAt (a .left) (a .kind) (a .count) (a .s .now) (a .from) .made) (a .base) (a .after) _ _ (q .pre .4) refl i, length-append) at (q .pre .7) in
+    let h = rw (own-bytes (a .section) (a .left) (a .kind) (a .count) (a .s .now) (a .from) (a .base) (a .after) (q .pre .4) refl, length-append) at (q .pre .7) in
     (q .pre .0, q .pre .1, q .pre .2, q .pre .3, q .pre .6, omega (arith, h))
 
 put-node-requires : tie.Need-put-node-requires
@@ -23,8 +21,7 @@ put-node-requires c κs =
     let o = c .before .before .before .before in
     let q = o .before .before .before .before in
     let a = q .args in
-    let i = items-count (a .left) (a .kind) (a .count) (a .s .now) (a .from) in
-    let h = rw (own-bytes (a .section) (a .kind) (itemsAt (a .left) (a .kind) (a .count) (a .s .now) (a .from) .made) (a .base) (a .after) _ _ (q .pre .4) (c .before .kind-number .ensures) i, length-append) at (q .pre .7) in
+    let h = rw (own-bytes (a .section) (a .left) (a .kind) (a .count) (a .s .now) (a .from) (a .base) (a .after) (q .pre .4) (c .before .kind-number .ensures), length-append) at (q .pre .7) in
     (q .pre .5, omega (arith, q .pre .3), omega (arith, h, o .put-own .ensures .after, o .put-own .kept))
 
 returns : tie.Need-returns
@@ -33,8 +30,7 @@ returns c =
     let o = k .before .before .before in
     let q = o .before .before .before .before in
     let a = q .args in
-    let i = items-count (a .left) (a .kind) (a .count) (a .s .now) (a .from) in
-    let e = own-bytes (a .section) (a .kind) (itemsAt (a .left) (a .kind) (a .count) (a .s .now) (a .from) .made) (a .base) (a .after) _ _ (q .pre .4) (k .kind-number .ensures) i in
+    let e = own-bytes (a .section) (a .left) (a .kind) (a .count) (a .s .now) (a .from) (a .base) (a .after) (q .pre .4) (k .kind-number .ensures) in
     let h = rw (e, length-append) at (q .pre .7) in
     rw e (wrote-after (omega (arith, h)) (o .put-own .ensures) (c .before .before .put-node .ensures))
 

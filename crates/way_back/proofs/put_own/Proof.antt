@@ -9,7 +9,7 @@ use Prim.Native.Nat.{_≤_}
 use mathlib.Core.Path.{refl, sym, _∙_}
 use lib.ListN.{length}
 use Rattle.parts.proofs.Passing.{items-none}
-use Rattle.way_back.specs.Pieces.{noItems}
+use Rattle.counts.specs.Pieces.{noItems}
 use Rattle.way_back.proofs.Wrote.{wrote-none}
 use Rattle.way_back.proofs.Entries.{no-own}
 use Rattle.way_back.proofs.Owning.{Turn, few-inner, few-sums, item-fits, turn-on}
@@ -33,41 +33,40 @@ loop-holds c =
     let q = c .before .before .before .before in
     record { a = noItems; goes = refl; few = omega (arith, q .pre .4); wrote = wrote-none _ _; nodes-is = refl; text-is = refl; k-is = refl; long = refl; inside = q .pre .0; fewer = omega arith }
 
+-- where the name ends is inside
+named-inside : (n : tie.After-past-name Inv-loop μ-loop) → n .past-name .result ≤ length (n .before .before .before .before .before .before .before .args .s .now)
+named-inside n = omega (arith, n .past-name .ensures .1 .1, n .before .before .loop .inv .inside)
+
 count-inner-requires : tie.Need-count-inner-requires Inv-loop μ-loop
-count-inner-requires c κs =
-    let n = c in let o = n .before .before in let q = o .before .before .before .before .before in
-    (omega (arith, n .past-name .ensures .1 .1, o .loop .inv .inside), q .pre .1, q .pre .2, few-inner (o .loop .inv) (q .pre .4) (n .before .loop-test .taken) _ (n .past-name .ensures .0))
+count-inner-requires n κs =
+    let o = n .before .before in let q = o .before .before .before .before .before in
+    (named-inside n, q .pre .1, q .pre .2, few-inner (o .loop .inv) (q .pre .4) (n .before .loop-test .taken) _ (n .past-name .ensures .0))
 
 add-nodes : tie.Need-add-nodes Inv-loop μ-loop
 add-nodes c =
     let p = c .before in let n = p .before in let o = n .before .before in let q = o .before .before .before .before .before in
-    let i : n .past-name .result ≤ length (q .args .s .now) = omega (arith, n .past-name .ensures .1 .1, o .loop .inv .inside) in
-    record { fits = omega (arith, few-sums (o .loop .inv) (q .pre .4) (n .before .loop-test .taken) _ (n .past-name .ensures .0) (n .past-name .ensures .1 .0) i _ (p .count-inner .ensures)) }
+    record { fits = omega (arith, few-sums (o .loop .inv) (q .pre .4) (n .before .loop-test .taken) _ (n .past-name .ensures .0) (n .past-name .ensures .1 .0) (named-inside n) _ (p .count-inner .ensures)) }
 
 add-before : tie.Need-add-before Inv-loop μ-loop
 add-before c =
     let p = c .before .before .before in let n = p .before in let o = n .before .before in let q = o .before .before .before .before .before in
-    let i : n .past-name .result ≤ length (q .args .s .now) = omega (arith, n .past-name .ensures .1 .1, o .loop .inv .inside) in
-    record { fits = omega (arith, few-sums (o .loop .inv) (q .pre .4) (n .before .loop-test .taken) _ (n .past-name .ensures .0) (n .past-name .ensures .1 .0) i _ (p .count-inner .ensures)) }
+    record { fits = omega (arith, few-sums (o .loop .inv) (q .pre .4) (n .before .loop-test .taken) _ (n .past-name .ensures .0) (n .past-name .ensures .1 .0) (named-inside n) _ (p .count-inner .ensures)) }
 
 put-item-requires : tie.Need-put-item-requires Inv-loop μ-loop
 put-item-requires c κs =
     let b = c .before .before .before in let p = b .before .before .before .before in let n = p .before in let o = n .before .before in let q = o .before .before .before .before .before in
-    let i : n .past-name .result ≤ length (q .args .s .now) = omega (arith, n .past-name .ensures .1 .1, o .loop .inv .inside) in
-    item-fits (o .loop .inv) (q .pre .4) (n .before .loop-test .taken) _ (n .past-name .ensures .0) (n .past-name .ensures .1 .0) i _ (p .count-inner .ensures) (q .pre .5) _ (b .before2 .ensures) (q .pre .1)
+    item-fits (o .loop .inv) (q .pre .4) (n .before .loop-test .taken) _ (n .past-name .ensures .0) (n .past-name .ensures .1 .0) (named-inside n) _ (p .count-inner .ensures) (q .pre .5) _ (b .before2 .ensures) (q .pre .1)
 
 add-text : tie.Need-add-text Inv-loop μ-loop
 add-text c =
     let u = c .before .before .before in let b = u .before .before .before .before in let p = b .before .before .before .before in let n = p .before in let o = n .before .before in let q = o .before .before .before .before .before in
-    let i : n .past-name .result ≤ length (q .args .s .now) = omega (arith, n .past-name .ensures .1 .1, o .loop .inv .inside) in
-    let h = few-sums (o .loop .inv) (q .pre .4) (n .before .loop-test .taken) _ (n .past-name .ensures .0) (n .past-name .ensures .1 .0) i _ (p .count-inner .ensures) in
+    let h = few-sums (o .loop .inv) (q .pre .4) (n .before .loop-test .taken) _ (n .past-name .ensures .0) (n .past-name .ensures .1 .0) (named-inside n) _ (p .count-inner .ensures) in
     record { fits = omega (arith, h .2, c .text-size .ensures) }
 
 loop-again : tie.Need-loop-again Inv-loop μ-loop
 loop-again c =
     let u = c .before .before .before in let b = u .before .before .before .before in let p = b .before .before .before .before in let n = p .before in let o = n .before .before in let q = o .before .before .before .before .before in
-    let i : n .past-name .result ≤ length (q .args .s .now) = omega (arith, n .past-name .ensures .1 .1, o .loop .inv .inside) in
-    turn-on (o .loop .inv) (q .pre .4) (n .before .loop-test .taken) _ (n .past-name .ensures .0) (n .past-name .ensures .1 .0) i _ (p .count-inner .ensures) (q .pre .5) _ (b .before2 .ensures) (u .put-item .ensures) (omega (arith, u .put-item .kept)) (c .text-size .ensures)
+    turn-on (o .loop .inv) (q .pre .4) (n .before .loop-test .taken) _ (n .past-name .ensures .0) (n .past-name .ensures .1 .0) (named-inside n) _ (p .count-inner .ensures) (q .pre .5) _ (b .before2 .ensures) (u .put-item .ensures) (omega (arith, u .put-item .kept)) (c .text-size .ensures)
 
 returns-2 : tie.Need-returns-2 Inv-loop μ-loop
 returns-2 c =

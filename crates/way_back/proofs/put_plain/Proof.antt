@@ -5,7 +5,7 @@ use native.Mathlib.Omega.{arith}
 use mathlib.Core.Path.{sym, _∙_}
 use lib.ListN.{length-take, length-drop}
 use Rattle.parts.proofs.Passing.{blank-cut, shape-blank}
-use Rattle.way_back.specs.Pieces.{pieces}
+use Rattle.counts.specs.Pieces.{pieces}
 use Rattle.way_back.proofs.Wrote.{wrote-none}
 use Rattle.way_back.proofs.Texts.{symbol-here}
 use Rattle.way_back.proofs.put_plain.Statement.{statement}

@@ -2,7 +2,7 @@
 -- Assumes nothing.
 use borrow.Author.Needs.{needs}
 use native.Mathlib.Omega.{arith}
-use Rattle.way_back.proofs.Entries.{short-blank, short-prim, short-array, short-map}
+use Rattle.counts.proofs.Shorts.{short-blank, short-prim, short-array, short-map}
 use Rattle.way_back.proofs.put_short.Statement.{statement}
 use Rattle.way_back.proofs.put_short.Tie as tie
 

@@ -1,0 +1,9 @@
+pub mod OfShapes
+pub mod Shorts
+pub mod Grows
+pub mod Making
+pub mod Texted
+pub mod Gathers
+pub mod Grown
+pub mod Linked
+pub mod Counting
