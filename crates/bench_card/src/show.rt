@@ -1,6 +1,6 @@
 // What a call answers for a case, as one line: `NAME INPUT: ok NUMBERS BUFFER` or `NAME INPUT: no NUMBER PLACE BUFFER`. An input is its bytes, or only
 // how many they are. The buffer is every byte of it, where one was lent; it held EE before.
-use leaves::buffer::Made;
+use buffers::Made;
 use leaves::limits::MAX_BYTES;
 use libc::STDOUT_FILENO;
 use parts::FoundChild;

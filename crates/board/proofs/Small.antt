@@ -30,7 +30,7 @@ use Rattle.meaning.proofs.SheetBytes.{sheet-read, sheet-refusal}
 use Rattle.meaning.proofs.Bounds.{farthest, Small}
 use Rattle.meaning.proofs.TableAnswers.{write-small}
 use Rattle.meaning.proofs.Parts.{children-few, names-few, child-inside, packed-number, name-inside}
-use Rattle.leaves.specs.Said.{madeSaid}
+use Rattle.buffers.specs.Said.{madeSaid}
 use Rattle.reader.specs.declared.Judgement.{Judgement}
 use Rattle.reader.specs.declared.Judgement.the-variants.{Accepted, Refused}
 use Rattle.reader.specs.Said.{said}

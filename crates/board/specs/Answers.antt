@@ -12,9 +12,9 @@ use Rattle.meaning.specs.Reading.{Reading, got, bad}
 use Rattle.meaning.specs.Sheet.{Sheet, encodings}
 use Rattle.meaning.specs.Answers as Meant
 use Rattle.meaning.specs.Parts.{Child, part, packedPrim, children, childOf, names, nameText, namePlace}
-use Rattle.leaves.specs.declared.buffer.Made.{Made}
-use Rattle.leaves.specs.declared.buffer.Made.the-variants.{Written, Refused}
-use Rattle.leaves.specs.Said.{madeSaid}
+use Rattle.buffers.specs.declared.Made.{Made}
+use Rattle.buffers.specs.declared.Made.the-variants.{Written, Refused}
+use Rattle.buffers.specs.Said.{madeSaid}
 use Rattle.editor.specs.declared.Node.{Node}
 use Rattle.editor.specs.Records.{recordsOutcome}
 use Rattle.board.specs.declared.Answer.{Answer}

@@ -1,6 +1,6 @@
 // Every call that a host makes, on byte slices and plain numbers. Each trusts nobody to have looked first. include/shiulbart.h is this page for C.
+use buffers::Made;
 use editor::Node;
-use leaves::buffer::Made;
 use leaves::refusals::SHEET_BROKEN;
 use parts::FoundChild;
 use parts::FoundName;

@@ -18,10 +18,10 @@ use Rattle.meaning.specs.TableReading.{nodeSize}
 use Rattle.meaning.specs.Answers.{bufferAfter}
 use Rattle.meaning.proofs.Rules.{rule}
 use Rattle.meaning.proofs.TableBytes.{nodes-append, nodes-length}
-use Rattle.leaves.specs.declared.buffer.Made.{Made}
-use Rattle.leaves.specs.Said.{madeSaid}
-use Rattle.leaves.specs.Written.{written}
-use Rattle.leaves.proofs.Written.{written-none, written-after}
+use Rattle.buffers.specs.declared.Made.{Made}
+use Rattle.buffers.specs.Said.{madeSaid}
+use Rattle.buffers.specs.Written.{written}
+use Rattle.buffers.proofs.Written.{written-none, written-after}
 use Rattle.tables.specs.Places.{nodeBytes}
 use Rattle.editor.specs.declared.Node.{Node}
 use Rattle.editor.specs.Records.{meant, recordsAnswer, recordsOutcome}

@@ -10,8 +10,8 @@ use Rattle.meaning.specs.Refusals.{sectionBroken}
 use Rattle.meaning.specs.Numbers.{twoBytes}
 use Rattle.meaning.specs.Table as Meant
 use Rattle.meaning.specs.Answers.{Answer, refused, writeAnswer, bufferAfter}
-use Rattle.leaves.specs.declared.buffer.Made.{Made}
-use Rattle.leaves.specs.Said.{madeSaid}
+use Rattle.buffers.specs.declared.Made.{Made}
+use Rattle.buffers.specs.Said.{madeSaid}
 use Rattle.editor.specs.declared.Node.{Node}
 
 -- a record is a node whose second byte is zero

@@ -9,7 +9,7 @@ use Rattle.meaning.specs.Refusals.{sectionBroken}
 use Rattle.meaning.specs.Table as Meant
 use Rattle.meaning.specs.TableReading.{nodeSize}
 use Rattle.meaning.specs.Answers.{Answer, refused, writeAnswer}
-use Rattle.leaves.specs.Written.{written}
+use Rattle.buffers.specs.Written.{written}
 use Rattle.tables.specs.Places.{nodeBytes}
 use Rattle.writer.specs.Bytes.{whole}
 use Rattle.editor.specs.declared.Node.{Node}

@@ -1,7 +1,7 @@
 // The editor's front: its nodes are lent as records, the rest of the table as bytes (01-scope.md, "Node table"). The records are put into bytes here,
 // six a node, and go on to the writer of tables. What has a slice of records in its hands is proved by a walk of its own code, and is kept thin: it
 // reads fields and calls. Every decision is made in a function on plain numbers.
-use leaves::buffer::Made;
+use buffers::Made;
 use leaves::limits::MAX_NODES;
 use leaves::refusals::SECTION_BROKEN;
 use tables::NODE_SIZE;
@@ -12,7 +12,7 @@ ghost use Rattle.meaning.specs.Limits.{maxNodes};
 ghost use Rattle.meaning.specs.Table.{node};
 ghost use Rattle.meaning.specs.TableReading.{nodeSize};
 ghost use Rattle.meaning.specs.Answers.{bufferAfter};
-ghost use Rattle.leaves.specs.Said.{madeSaid};
+ghost use Rattle.buffers.specs.Said.{madeSaid};
 ghost use Rattle.editor.specs.Records.{recordsOutcome};
 ghost use Rattle.editor.specs.Section.{none, nodePut, recordPut, recordsPut, admittedOf, sectionAnswer};
 

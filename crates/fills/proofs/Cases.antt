@@ -19,9 +19,9 @@ use Rattle.meaning.specs.SheetReading.{readSheet}
 use Rattle.meaning.specs.Answers.{refused, onto, inRoom, made, fillAnswer}
 use Rattle.meaning.proofs.Window.{bytes-by-index}
 use Rattle.meaning.proofs.Laws.{by-reading}
-use Rattle.leaves.specs.declared.buffer.Made.{Made}
-use Rattle.leaves.specs.Verdicts.{verdictOf}
-use Rattle.leaves.proofs.Verdicts.{Comes, comes}
+use Rattle.buffers.specs.declared.Made.{Made}
+use Rattle.buffers.specs.Verdicts.{verdictOf}
+use Rattle.buffers.proofs.Verdicts.{Comes, comes}
 use Rattle.reader.specs.declared.Judgement.the-variants.{Accepted, Refused}
 use Rattle.reader.specs.Said.{said}
 use Rattle.sheets.specs.declared.Checked.the-variants.{Broken}

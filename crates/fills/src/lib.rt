@@ -1,7 +1,7 @@
 // Fill (01-scope.md, "Sheets"): the template with all blanks that the sheet names replaced at one moment. It is measured first and written second,
 // so a refusal has written nothing.
-use leaves::buffer::Made;
-use leaves::buffer::verdict;
+use buffers::Made;
+use buffers::verdict;
 use leaves::refusals::SHEET_BROKEN;
 use reader::Judgement;
 use sheets::Checked;
@@ -9,7 +9,7 @@ ghost use mathlib.Core.Path.{_≡_};
 ghost use lib.ListN.{length};
 ghost use Rattle.meaning.specs.Reading.{reading};
 ghost use Rattle.meaning.specs.Answers.{fillAnswer, bufferAfter};
-ghost use Rattle.leaves.specs.Said.{madeSaid};
+ghost use Rattle.buffers.specs.Said.{madeSaid};
 ghost use Rattle.sheets.specs.Index.{Ready};
 ghost use Rattle.fills.specs.Accepted.{IsAccepted};
 

@@ -12,10 +12,10 @@ use native.Mathlib.Omega.{arith}
 use lib.Dec.{ltb}
 use lib.ListN.{length, getD, length-append}
 use borrow.Author.Tests.{le-ltb, lt-ltb, ltb-false}
-use Rattle.leaves.specs.declared.buffer.Made.{Made}
-use Rattle.leaves.specs.declared.buffer.Made.the-variants.{Written, Refused}
-use Rattle.leaves.specs.Said.{madeSaid}
-use Rattle.leaves.specs.Written.{written}
+use Rattle.buffers.specs.declared.Made.{Made}
+use Rattle.buffers.specs.declared.Made.the-variants.{Written, Refused}
+use Rattle.buffers.specs.Said.{madeSaid}
+use Rattle.buffers.specs.Written.{written}
 use Rattle.meaning.specs.Rules.{_⇒_∣_}
 use Rattle.meaning.specs.Limits.{maxBytes, maxLevels, maxEntries, maxEncodings}
 use Rattle.meaning.specs.Refusals.{bufferShort, sheetBroken, secondBroken, madeTooDeep, madeTooLong, joinedTooLarge}

@@ -20,7 +20,7 @@ use Rattle.meaning.specs.Reading.{got, reading}
 use Rattle.meaning.specs.Sheet.{plug}
 use Rattle.meaning.proofs.Window.{window-take}
 use Rattle.meaning.proofs.Laws.{reading-encode}
-use Rattle.leaves.specs.Written.{written}
+use Rattle.buffers.specs.Written.{written}
 use Rattle.sheets.specs.declared.Part.{Part}
 use Rattle.sheets.specs.Index.{PartIs}
 use Rattle.sizes.specs.declared.Size.{Size}

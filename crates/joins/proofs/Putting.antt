@@ -19,8 +19,8 @@ use Rattle.meaning.specs.Encode.{encode}
 use Rattle.meaning.specs.Numbered.{Numbered, All, over, each}
 use Rattle.meaning.specs.Sheet.{Sheet, join, lengths, entriesBytes, encodings, sheetBytes, EntryWithin}
 use Rattle.meaning.specs.SheetReading.{countSize, entrySize}
-use Rattle.leaves.specs.Written.{written}
-use Rattle.leaves.proofs.Written.{written-length, written-none, written-after, written-before, written-apart}
+use Rattle.buffers.specs.Written.{written}
+use Rattle.buffers.proofs.Written.{written-length, written-none, written-after, written-before, written-apart}
 use Rattle.sheets.specs.Steps.{entryPlace}
 use Rattle.sheets.proofs.Places.{all-at}
 use Rattle.joins.specs.declared.Turn.{Turn}

@@ -1,10 +1,10 @@
 // Join (01-scope.md, "Sheets"): each blank of the first sheet with its shape filled by the second, and each blank only in the second as it is
 // there. The numbers of both rise, so the joined entries are met in order by going through both at once: to count them, to measure them, and to
 // write them. A refusal has written nothing.
+use buffers::Made;
+use buffers::put_part;
+use buffers::put_two;
 use leaves::COUNT_SIZE;
-use leaves::buffer::Made;
-use leaves::buffer::put_part;
-use leaves::buffer::put_two;
 use leaves::limits::MAX_BYTES;
 use leaves::limits::MAX_ENCODINGS;
 use leaves::limits::MAX_ENTRIES;
@@ -25,8 +25,8 @@ ghost use Rattle.meaning.specs.Encode.{encode};
 ghost use Rattle.meaning.specs.Sheet.{join, lengths, entriesBytes, encodings, sheetBytes};
 ghost use Rattle.meaning.specs.SheetReading.{countSize};
 ghost use Rattle.meaning.specs.Answers.{joinAnswer, bufferAfter};
-ghost use Rattle.leaves.specs.Written.{written};
-ghost use Rattle.leaves.specs.Said.{madeSaid};
+ghost use Rattle.buffers.specs.Written.{written};
+ghost use Rattle.buffers.specs.Said.{madeSaid};
 ghost use Rattle.sheets.specs.Steps.{entryPlace};
 ghost use Rattle.sheets.specs.Index.{sheetIn, Ready};
 ghost use Rattle.joins.specs.Merge.{Whose, nextEntry, TurnIs, spanOf, Fitting, measuredAll};

@@ -1,5 +1,3 @@
-pub mod Written
 pub mod Numbers
 pub mod Text
 pub mod Way
-pub mod Verdicts

@@ -1,5 +1,4 @@
 // The leaves of the codec: numbers of two bytes, LEB128 numbers and UTF-8 text. A window is a slice's bytes from a place up to end.
-pub mod buffer;
 pub mod limits;
 pub mod refusals;
 

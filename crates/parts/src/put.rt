@@ -1,8 +1,8 @@
 // Heads and blanks of an encoding, written into a lent buffer.
 use crate::HEAD_SIZE;
 use crate::LONG_BLANK;
-use leaves::buffer::put_byte;
-use leaves::buffer::put_two;
+use buffers::put_byte;
+use buffers::put_two;
 use reader::first::ARRAY;
 use reader::first::FUNCTION;
 use reader::first::Kind;
@@ -15,7 +15,7 @@ ghost use mathlib.Core.Path.{_≡_};
 ghost use Prim.Native.Nat.{_≤_, _<_, _+_};
 ghost use lib.ListN.{length};
 ghost use Rattle.meaning.specs.Encode.{blankBytes};
-ghost use Rattle.leaves.specs.Written.{written};
+ghost use Rattle.buffers.specs.Written.{written};
 ghost use Rattle.parts.specs.Heads.{kindSays, headBytes};
 
 // The first byte of a kind.

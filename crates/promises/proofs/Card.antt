@@ -19,8 +19,8 @@ use Rattle.meaning.specs.SheetReading.{sum, readEntries, orEntry, readEncodings
 use Rattle.meaning.specs.Answers.{onto, made, allMade, madeSheet, fillAnswer, joinAnswer}
 use Rattle.meaning.proofs.Laws.{encode-reading}
 use Rattle.meaning.proofs.Answers.{room-enough}
-use Rattle.leaves.specs.declared.buffer.Made.{Made}
-use Rattle.leaves.specs.declared.buffer.Made.the-variants.{Written}
+use Rattle.buffers.specs.declared.Made.{Made}
+use Rattle.buffers.specs.declared.Made.the-variants.{Written}
 use Rattle.reader.specs.declared.Judgement.{Judgement}
 use Rattle.reader.specs.declared.Judgement.the-variants.{Accepted, Refused}
 use Rattle.parts.specs.declared.FoundChild.{FoundChild}

@@ -33,8 +33,8 @@ use Rattle.meaning.proofs.Answers.{Filled, fill-answered, fill-answers, fill-fi
 use Rattle.meaning.proofs.TableBytes.{same-table-bytes}
 use Rattle.meaning.proofs.TableAnswers.{Wrote, write-answered, write-answers, write-fits, table-answered, table-answers, table-fits, table-write, write-table, same-meaning}
 use Rattle.meaning.proofs.TableAnswers as Meant
-use Rattle.leaves.specs.declared.buffer.Made.{Made}
-use Rattle.leaves.specs.declared.buffer.Made.the-variants.{Written}
+use Rattle.buffers.specs.declared.Made.{Made}
+use Rattle.buffers.specs.declared.Made.the-variants.{Written}
 use Rattle.reader.specs.declared.Judgement.{Judgement}
 use Rattle.reader.specs.declared.Judgement.the-variants.{Accepted}
 use Rattle.reader.specs.Said.{said}

@@ -13,8 +13,8 @@ use lib.ListN.{length, take}
 use Rattle.meaning.specs.Answers.{Answer, answered, refused, fillAnswer, joinAnswer, writeAnswer, tableAnswer}
 use Rattle.meaning.proofs.Answers.{buffer-front, buffer-kept, Filled, fill-answered, Joined, join-answered}
 use Rattle.meaning.proofs.TableAnswers as Meant
-use Rattle.leaves.specs.declared.buffer.Made.{Made}
-use Rattle.leaves.specs.declared.buffer.Made.the-variants.{Written, Refused}
+use Rattle.buffers.specs.declared.Made.{Made}
+use Rattle.buffers.specs.declared.Made.the-variants.{Written, Refused}
 use Rattle.promises.proofs.Calls.{Fill, Join, Write, Tabled}
 use Rattle.promises.proofs.Says.{Says, fill-says, join-says, write-says, table-says}
 

@@ -7,7 +7,7 @@ use mathlib.Core.Path.{_≡_, sym, _∙_}
 use mathlib.Core.List.{List}
 use contract.Lifetimes.{Lfts}
 use denote.Ref.{now}
-use Rattle.leaves.specs.declared.buffer.Made.{Made}
+use Rattle.buffers.specs.declared.Made.{Made}
 use Rattle.reader.specs.declared.Judgement.{Judgement}
 use Rattle.parts.specs.declared.FoundChild.{FoundChild}
 use Rattle.parts.specs.declared.FoundName.{FoundName}

@@ -24,8 +24,8 @@ use Rattle.meaning.specs.Answers as Meant
 use Rattle.meaning.specs.Answers.{answered, refused, writeAnswer}
 use Rattle.meaning.proofs.Rules.{rule}
 use Rattle.meaning.proofs.TableAnswers.{write-fits}
-use Rattle.leaves.specs.declared.buffer.Made.{Made}
-use Rattle.leaves.specs.declared.buffer.Made.the-variants.{Written, Refused}
+use Rattle.buffers.specs.declared.Made.{Made}
+use Rattle.buffers.specs.declared.Made.the-variants.{Written, Refused}
 use Rattle.editor.specs.declared.Node.{Node}
 use Rattle.editor.specs.Records.{sameTable, recordsAnswer, recordsOutcome}
 use Rattle.board.specs.declared.Answer.{Answer}

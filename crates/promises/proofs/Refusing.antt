@@ -29,9 +29,9 @@ use Rattle.meaning.proofs.SheetBytes.{sheet-read, sheet-refusal}
 use Rattle.meaning.proofs.TableBytes.{table-refusal}
 use Rattle.meaning.proofs.Answers.{fill-fits, join-fits, buffer-rest, buffer-kept, buffer-length}
 use Rattle.meaning.proofs.TableAnswers.{write-fits, table-fits}
-use Rattle.leaves.specs.declared.buffer.Made.{Made}
-use Rattle.leaves.specs.declared.buffer.Made.the-variants.{Written, Refused}
-use Rattle.leaves.specs.Said.{madeSaid}
+use Rattle.buffers.specs.declared.Made.{Made}
+use Rattle.buffers.specs.declared.Made.the-variants.{Written, Refused}
+use Rattle.buffers.specs.Said.{madeSaid}
 use Rattle.reader.specs.declared.Judgement.{Judgement}
 use Rattle.reader.specs.declared.Judgement.the-variants as judged
 use Rattle.reader.specs.Said.{said}

@@ -9,8 +9,8 @@ use Rattle.meaning.specs.Refusals.{sheetBroken}
 use Rattle.meaning.specs.Reading.{reading}
 use Rattle.meaning.specs.SheetReading.{readSheet}
 use Rattle.meaning.specs.Answers.{Answer, fillAnswer, joinAnswer, writeAnswer, tableAnswer, bufferAfter}
-use Rattle.leaves.specs.declared.buffer.Made.{Made}
-use Rattle.leaves.specs.Said.{madeSaid}
+use Rattle.buffers.specs.declared.Made.{Made}
+use Rattle.buffers.specs.Said.{madeSaid}
 use Rattle.reader.specs.declared.Judgement.{Judgement}
 use Rattle.reader.specs.Said.{said}
 use Rattle.parts.specs.declared.FoundChild.{FoundChild}

@@ -18,8 +18,8 @@ use Rattle.meaning.specs.Encode.{encode}
 use Rattle.meaning.specs.Sheet.{fill, entriesBytes, encodings, sheetBytes}
 use Rattle.meaning.specs.Answers.{refused, fillAnswer}
 use Rattle.meaning.proofs.Answers.{Filled, fill-answered, fill-short, two-fills, other-pairing, three-joins, fill-by-empty, join-empty-first, join-empty-second}
-use Rattle.leaves.specs.declared.buffer.Made.{Made}
-use Rattle.leaves.specs.declared.buffer.Made.the-variants.{Written, Refused}
+use Rattle.buffers.specs.declared.Made.{Made}
+use Rattle.buffers.specs.declared.Made.the-variants.{Written, Refused}
 use Rattle.reader.specs.declared.Judgement.the-variants.{Accepted}
 use Rattle.sheets.specs.declared.Checked.the-variants.{Sound}
 use Rattle.promises.proofs.Calls.{Read, Check, Fill, Join}

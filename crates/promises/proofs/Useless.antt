@@ -32,7 +32,7 @@ use Rattle.meaning.specs.Table.{nodesBytes, linksBytes, namesBytes, tableBytes,
 use Rattle.meaning.specs.TableReading.{sectionAt, nodesIn, namesIn, goodNode, checkNodes, checkNames, ended, readTable}
 use Rattle.meaning.specs.Answers.{Answer, answered, onto, inRoom, made, allMade, madeSheet, fillAnswer, joinAnswer, writeAnswer, tableAnswer}
 use Rattle.meaning.proofs.Answers.{room-answered, room-enough, room-refused}
-use Rattle.leaves.specs.declared.buffer.Made.the-variants.{Written, Refused}
+use Rattle.buffers.specs.declared.Made.the-variants.{Written, Refused}
 use Rattle.editor.specs.declared.Node.{Node}
 use Rattle.editor.specs.Records.{recordsAnswer}
 use Rattle.reader.specs.declared.Judgement.the-variants as read

@@ -1,8 +1,8 @@
 // The checks of a node table, in place (01-scope.md, "Node table"). The bytes of the nodes and the rest, from the links' count on, come as two
 // slices, so that a caller may have the nodes elsewhere.
+use buffers::put_byte;
+use buffers::put_two;
 use leaves::COUNT_SIZE;
-use leaves::buffer::put_byte;
-use leaves::buffer::put_two;
 use leaves::limits::MAX_LINKS;
 use leaves::limits::MAX_NAMES;
 use leaves::limits::MAX_TEXT;
@@ -11,7 +11,7 @@ ghost use Prim.Native.Nat.{_≤_, _<_, _+_, _*_};
 ghost use lib.ListN.{length};
 ghost use Rattle.meaning.specs.Limits.{maxNodes, maxLinks, maxNames, maxText};
 ghost use Rattle.meaning.specs.TableReading.{nodeSize, linkSize, nameSize};
-ghost use Rattle.leaves.specs.Written.{written};
+ghost use Rattle.buffers.specs.Written.{written};
 ghost use Rattle.tables.specs.Places.{nodeBytes, linkPlace, namePlace, textPlace, sectionOf, layoutAt, nodeSaid, nodeAt, linkSaid, linkAt, targetKind, Aimed, nameSaid, nameAt, goodBy, goodFrom, goodSpan, goodAt, firstBadNode, firstBadName};
 
 // The bytes of a node, of a link and of a name.

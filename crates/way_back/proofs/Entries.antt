@@ -17,7 +17,7 @@ use lib.ListN.{length, length-drop}
 use lib.Seq.{slice, slice-empty, take-length}
 use Rattle.meaning.specs.Numbers.{twoBytes}
 use Rattle.meaning.specs.Table.{arrayKind, mapKind}
-use Rattle.leaves.specs.Written.{written}
+use Rattle.buffers.specs.Written.{written}
 use Rattle.reader.specs.Walk.{named, shaped}
 use Rattle.reader.specs.declared.first.Kind.{Kind}
 use Rattle.reader.specs.declared.first.Kind.the-variants.{Array, Map}

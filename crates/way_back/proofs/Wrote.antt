@@ -7,7 +7,7 @@ use mathlib.Core.List.{List, [], _++_}
 use Prim.Native.Nat.{ℕ}
 use native.Mathlib.Omega.{arith}
 use lib.ListN.{length, length-append}
-use Rattle.leaves.proofs.Written.{written-none, written-after}
+use Rattle.buffers.proofs.Written.{written-none, written-after}
 use Rattle.way_back.specs.Puts.{Wrote, Room}
 
 -- Where nothing is written, the buffer and the place stay.

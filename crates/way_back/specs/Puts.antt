@@ -5,7 +5,7 @@ use mathlib.Core.Bool.{Bool, true, false}
 use mathlib.Core.List.{List, [], _++_}
 use lib.ListN.{length}
 use Rattle.meaning.specs.Numbers.{twoBytes}
-use Rattle.leaves.specs.Written.{written}
+use Rattle.buffers.specs.Written.{written}
 use Rattle.reader.specs.Walk.{named}
 use Rattle.reader.specs.declared.first.Kind.{Kind}
 use Rattle.parts.specs.Pass.{Came, passItems}

@@ -1,5 +1,8 @@
 // The way back: from an encoding to the node table of its shape (01-scope.md, "Node table"). Nothing is shared: children first, then the node. The
 // entries are counted first, so a refusal has written nothing; then each section is written by a pass of its own.
+use buffers::Made;
+use buffers::put_part;
+use buffers::put_two;
 use counts::Counts;
 use counts::Section;
 use counts::count_at;
@@ -10,9 +13,6 @@ use counts::own_counts;
 use counts::plus;
 use counts::short_counts;
 use leaves::COUNT_SIZE;
-use leaves::buffer::Made;
-use leaves::buffer::put_part;
-use leaves::buffer::put_two;
 use leaves::limits::MAX_LEVELS;
 use leaves::refusals::BUFFER_SHORT;
 use parts::HEAD_SIZE;
@@ -42,7 +42,7 @@ ghost use Rattle.meaning.specs.Rules.{_⇒_∣_};
 ghost use Rattle.meaning.specs.Limits.{maxLevels};
 ghost use Rattle.meaning.specs.Numbers.{twoBytes};
 ghost use Rattle.meaning.specs.Answers.{tableAnswer, bufferAfter};
-ghost use Rattle.leaves.specs.Said.{madeSaid};
+ghost use Rattle.buffers.specs.Said.{madeSaid};
 ghost use Rattle.reader.specs.declared.first.First.the-variants.{Long};
 ghost use Rattle.reader.specs.declared.first.Kind.the-variants.{Array, Map};
 ghost use Rattle.reader.specs.Walk.{shaped};

@@ -19,9 +19,9 @@ use Rattle.meaning.specs.Reading.{bad}
 use Rattle.meaning.specs.Table.{shapeOf, tableShape}
 use Rattle.meaning.specs.TableReading.{nodeSize, linksPlace, readTable}
 use Rattle.meaning.specs.Answers.{refused, onto, writeAnswer}
-use Rattle.leaves.specs.declared.buffer.Made.{Made}
-use Rattle.leaves.specs.Verdicts.{verdictOf}
-use Rattle.leaves.proofs.Verdicts.{Comes, comes}
+use Rattle.buffers.specs.declared.Made.{Made}
+use Rattle.buffers.specs.Verdicts.{verdictOf}
+use Rattle.buffers.proofs.Verdicts.{Comes, comes}
 use Rattle.tables.specs.declared.Layout.the-variants.{Laid, Broken}
 use Rattle.tables.specs.Places.{textPlace, layoutAt, tableIn, firstBadNode, firstBadName}
 use Rattle.tables.proofs.Turns.{node-within, name-within}

@@ -10,8 +10,8 @@ use native.Mathlib.Omega.{arith}
 use lib.ListN.{length, length-append}
 use Rattle.meaning.specs.Table.{Node}
 use Rattle.meaning.specs.TableReading.{nodeSize}
-use Rattle.leaves.specs.Written.{written}
-use Rattle.leaves.proofs.Written.{written-after, written-before}
+use Rattle.buffers.specs.Written.{written}
+use Rattle.buffers.proofs.Written.{written-after, written-before}
 use Rattle.reader.specs.declared.first.Kind.{Kind}
 use Rattle.parts.specs.Heads.{headBytes}
 use Rattle.tables.specs.declared.Way.{Way}

@@ -13,8 +13,8 @@ use native.Mathlib.Numerals.{add-one}
 use native.Mathlib.Omega.{arith}
 use lib.ListN.{length, length-append}
 use Rattle.meaning.specs.Table.{Link}
-use Rattle.leaves.specs.Written.{written}
-use Rattle.leaves.proofs.Written.{written-none, written-after}
+use Rattle.buffers.specs.Written.{written}
+use Rattle.buffers.proofs.Written.{written-none, written-after}
 use Rattle.tables.specs.declared.Way.{Way}
 use Rattle.tables.specs.declared.Way.the-variants.{Bare, Named, Texts}
 use Rattle.tables.specs.Places.{linkAt}

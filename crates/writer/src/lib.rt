@@ -1,12 +1,12 @@
 // The writer: from a node table to the encoding of the shape that it means (01-scope.md, "Node table"). The checks come first, then how long and
 // how deep the shape is, found without walking what nodes share; only what is known to fit is written.
+use buffers::Made;
+use buffers::put_byte;
+use buffers::put_leb;
+use buffers::put_part;
+use buffers::verdict;
 use extents::extents_of;
 use leaves::COUNT_SIZE;
-use leaves::buffer::Made;
-use leaves::buffer::put_byte;
-use leaves::buffer::put_leb;
-use leaves::buffer::put_part;
-use leaves::buffer::verdict;
 use leaves::limits::MAX_NODES;
 use leaves::refusals::NAME_BROKEN;
 use leaves::refusals::NODE_BROKEN;
@@ -33,8 +33,8 @@ ghost use lib.ListN.{length};
 ghost use Rattle.meaning.specs.Limits.{maxNodes};
 ghost use Rattle.meaning.specs.TableReading.{nodeSize};
 ghost use Rattle.meaning.specs.Answers.{writeAnswer, bufferAfter};
-ghost use Rattle.leaves.specs.Said.{madeSaid};
-ghost use Rattle.leaves.specs.Written.{written};
+ghost use Rattle.buffers.specs.Said.{madeSaid};
+ghost use Rattle.buffers.specs.Written.{written};
 ghost use Rattle.tables.specs.Places.{nodeSaid};
 ghost use Rattle.writer.specs.Bytes.{textAt, nameBytes, arrayForm, mapForm, formOf, countBytes, whole, tableAt, encodedAt, linksBytes};
 ghost use Rattle.writer.specs.Sound.{Sound, HasName, NamedBy, Aims, Formed, Linked, Room, soundAnswer};

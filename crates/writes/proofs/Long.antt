@@ -11,8 +11,8 @@ use lib.ListN.{length, length-append}
 use lib.Seq.{slice, length-slice}
 use borrow.Author.Tests.{lt-ltb, le-ltb}
 use Rattle.meaning.specs.Shape.{Shape}
-use Rattle.leaves.specs.Written.{written}
-use Rattle.leaves.proofs.Written.{written-after, written-before}
+use Rattle.buffers.specs.Written.{written}
+use Rattle.buffers.proofs.Written.{written-after, written-before}
 use Rattle.reader.specs.Walk.{shaped}
 use Rattle.reader.specs.declared.first.Kind.{Kind}
 use Rattle.reader.specs.declared.first.Kind.the-variants.{Array, Map, Record, Function, Symbol, Variable}

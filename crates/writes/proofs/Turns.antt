@@ -10,8 +10,8 @@ use native.Mathlib.Omega.{arith}
 use lib.ListN.{length, length-append}
 use lib.Seq.{slice, length-slice}
 use Rattle.meaning.specs.Shape.{Shape}
-use Rattle.leaves.specs.Written.{written}
-use Rattle.leaves.proofs.Written.{written-after}
+use Rattle.buffers.specs.Written.{written}
+use Rattle.buffers.proofs.Written.{written-after}
 use Rattle.reader.specs.declared.first.Kind.{Kind}
 use Rattle.parts.specs.Steps.{pastName}
 use Rattle.parts.specs.Pass.{came, Passer, passItems}

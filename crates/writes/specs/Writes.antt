@@ -13,7 +13,7 @@ use Rattle.meaning.specs.FirstByte.{shortBlanks, primByte, arrayByte, mapByte}
 use Rattle.meaning.specs.Encode.{encode}
 use Rattle.meaning.specs.Reading.{Reading, got, bad}
 use Rattle.meaning.specs.Sheet.{plug}
-use Rattle.leaves.specs.Written.{written}
+use Rattle.buffers.specs.Written.{written}
 use Rattle.reader.specs.declared.first.Kind.{Kind}
 use Rattle.reader.specs.declared.first.Kind.the-variants.{Array, Map, Record, Function, Symbol, Variable}
 use Rattle.parts.specs.Heads.{headBytes}

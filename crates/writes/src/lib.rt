@@ -1,7 +1,7 @@
 // Writes a filled shape into a lent buffer (01-scope.md, "Sheets") by one pass over the accepted bytes. It is measured before, so it is known to
 // fit. A payload is written before its head, which says how long it is; what becomes one byte is found out before anything of it is written.
-use leaves::buffer::put_byte;
-use leaves::buffer::put_part;
+use buffers::put_byte;
+use buffers::put_part;
 use leaves::limits::MAX_LEVELS;
 use parts::HEAD_SIZE;
 use parts::LONG_BLANK;
@@ -23,7 +23,7 @@ ghost use lib.ListN.{length};
 ghost use Rattle.meaning.specs.Limits.{maxLevels};
 ghost use Rattle.meaning.specs.Encode.{encode};
 ghost use Rattle.meaning.specs.Reading.{reading};
-ghost use Rattle.leaves.specs.Written.{written};
+ghost use Rattle.buffers.specs.Written.{written};
 ghost use Rattle.reader.specs.declared.first.First.the-variants.{Long};
 ghost use Rattle.reader.specs.Walk.{shaped};
 ghost use Rattle.parts.specs.Steps.{firstAt};

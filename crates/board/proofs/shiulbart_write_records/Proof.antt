@@ -39,9 +39,9 @@ use denote.Triple.Call.{calls-at}
 use denote.Triple.Clauses.{ensured, lasts}
 use denote.Triple.Table.{entered, cited}
 use denote.Triple.Walked.{says, Stays, stay-none-slice, gave-slice, walkOf, Walks, ends-at, walked, goes-none-slice, goes-gave-slice, walk-meets}
-use Rattle.leaves.specs.declared.buffer.Made.{Made}
-use Rattle.leaves.proofs.buffer.Made as Made′
-use Rattle.leaves.proofs.buffer.Made.Laws as Made″
+use Rattle.buffers.specs.declared.Made.{Made}
+use Rattle.buffers.proofs.Made as Made′
+use Rattle.buffers.proofs.Made.Laws as Made″
 use Rattle.editor.specs.declared.Node.{Node}
 use Rattle.editor.specs.Records.{recordsOutcome}
 use Rattle.editor.proofs.Node as Node′

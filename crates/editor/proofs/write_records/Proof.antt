@@ -49,16 +49,16 @@ use denote.Triple.Walked.{says, Stays, stay-dropped, gave-slice, walkOf, Walks, 
 use Rattle.meaning.specs.Limits.{maxNodes}
 use Rattle.meaning.specs.TableReading.{nodeSize}
 use Rattle.meaning.specs.Answers.{Answer, bufferAfter}
-use Rattle.leaves.specs.declared.buffer.Made.{Made}
-use Rattle.leaves.specs.Said.{madeSaid}
+use Rattle.buffers.specs.declared.Made.{Made}
+use Rattle.buffers.specs.Said.{madeSaid}
 use Rattle.editor.specs.declared.Node.{Node}
 use Rattle.editor.specs.Records.{recordsOutcome}
 use Rattle.editor.specs.Section.{admittedOf, recordsPut, sectionAnswer}
 use Rattle.editor.proofs.Outcome.{admitted-few, admitted-there, outcome}
 use Rattle.editor.proofs.Local.{Lies, Shown, all-of, big, made-typed, made, lends-array, array-back, lends-shr-array, room-back}
 use Rattle.editor.proofs.Node as T
-use Rattle.leaves.proofs.buffer.Made as Mt
-use Rattle.leaves.proofs.buffer.Made.Laws as Mt′
+use Rattle.buffers.proofs.Made as Mt
+use Rattle.buffers.proofs.Made.Laws as Mt′
 use Rattle.editor.proofs.admitted as admitted
 use Rattle.editor.proofs.admitted.Symbol as admitted-def
 use Rattle.editor.proofs.admitted.Symbol.{name as #editor·admitted}

@@ -5,8 +5,8 @@ use native.Mathlib.Omega.{arith}
 use mathlib.Core.Path.{refl, sym, ap, _∙_}
 use lib.ListN.{length}
 use Rattle.meaning.specs.Answers.{bufferAfter}
-use Rattle.leaves.specs.declared.buffer.Made.the-variants.{Written}
-use Rattle.leaves.proofs.Written.{buffer-made}
+use Rattle.buffers.specs.declared.Made.the-variants.{Written}
+use Rattle.buffers.proofs.Written.{buffer-made}
 use Rattle.fills.proofs.Cases.{accepted-short, found, answer-is, filled-comes}
 use Rattle.fills.proofs.fill_sound.Statement.{statement}
 use Rattle.fills.proofs.fill_sound.Tie as tie

@@ -7,8 +7,8 @@ use Prim.Native.Nat.{ℕ, _+_, _≤_}
 use native.Mathlib.Omega.{arith}
 use lib.ListN.{length}
 use Rattle.meaning.specs.Numbers.{twoBytes}
-use Rattle.leaves.specs.Written.{written}
-use Rattle.leaves.proofs.Written.{written-after}
+use Rattle.buffers.specs.Written.{written}
+use Rattle.buffers.proofs.Written.{written-after}
 use Rattle.tables.specs.Places.{nodeBytes}
 use Rattle.tables.proofs.put_node.Statement.{statement}
 use Rattle.tables.proofs.put_node.Tie as tie

@@ -6,8 +6,8 @@ use native.Mathlib.Nat.{zero-add}
 use mathlib.Core.Path.{refl, sym, ap, _∙_}
 use lib.ListN.{length}
 use Rattle.meaning.specs.Answers.{bufferAfter}
-use Rattle.leaves.specs.declared.buffer.Made.the-variants.{Written, Refused}
-use Rattle.leaves.proofs.Written.{buffer-made}
+use Rattle.buffers.specs.declared.Made.the-variants.{Written, Refused}
+use Rattle.buffers.proofs.Written.{buffer-made}
 use Rattle.way_back.proofs.Cases.{found, found-few, found-short, answer-unread, answer-short, sections-fit, answer-made}
 use Rattle.way_back.proofs.to_table.Statement.{statement}
 use Rattle.way_back.proofs.to_table.Tie as tie

@@ -7,7 +7,7 @@ use native.Mathlib.Omega.{arith}
 use Prim.Native.Nat.{ℕ, _<_, _+_, _*_}
 use native.Mathlib.Nat.{add-zero}
 use mathlib.Core.Path.{refl, sym, _∙_}
-use Rattle.leaves.proofs.Written.{written-none}
+use Rattle.buffers.proofs.Written.{written-none}
 use Rattle.writer.proofs.Links.{node-formed, node-by-form, node-linked, link-named, bare-before, named-before}
 use Rattle.writer.proofs.Turns.{Turn, turn-first, turn-last, bare-child, named-child, no-child, room-name, room-child, turn-on}
 use Rattle.writer.proofs.Heads.{list-room, list-wrote}
@@ -19,7 +19,7 @@ use Rattle.writer.proofs.+put_node+put_run.Lts-put_node as put-node-lts
 use Rattle.writer.proofs.put_run.Reads as put-run
 use Rattle.writer.proofs.put_run.Kinds as put-run-kinds
 use Rattle.writer.proofs.+put_node+put_run.Lts-put_run as put-run-lts
-use Rattle.leaves.proofs.buffer.put_byte.Reads as put-byte-reads
+use Rattle.buffers.proofs.put_byte.Reads as put-byte-reads
 use Rattle.parts.proofs.put.put_blank.Reads as put-blank-reads
 use Rattle.parts.proofs.put.put_head.Reads as put-head-reads
 use Rattle.tables.proofs.link_at.Reads as link-at-reads

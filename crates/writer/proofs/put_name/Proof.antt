@@ -3,7 +3,7 @@
 use borrow.Author.Needs.{needs}
 use native.Mathlib.Nat.{add-zero}
 use mathlib.Core.Path.{sym}
-use Rattle.leaves.proofs.Written.{written-none}
+use Rattle.buffers.proofs.Written.{written-none}
 use Rattle.writer.proofs.put_name.Statement.{statement}
 use Rattle.writer.proofs.put_name.Tie as tie
 

@@ -10,8 +10,8 @@ use lib.Seq.{slice, length-slice}
 use Rattle.meaning.specs.Numbers.{leb128}
 use Rattle.meaning.specs.Table.{Name, name}
 use Rattle.tables.specs.Places.{textPlace, nameAt}
-use Rattle.leaves.specs.Written.{written}
-use Rattle.leaves.proofs.Written.{written-after}
+use Rattle.buffers.specs.Written.{written}
+use Rattle.buffers.proofs.Written.{written-after}
 use Rattle.writer.specs.Bytes.{textAt}
 use Rattle.writer.specs.Sound.{HasName}
 use Rattle.writer.proofs.put_text.Statement.{statement}

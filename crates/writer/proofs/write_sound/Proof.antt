@@ -7,10 +7,10 @@ use lib.ListN.{length, getD}
 use Prim.Native.Nat.{_-_}
 use Rattle.meaning.specs.Table.{tableShape}
 use Rattle.meaning.specs.Answers.{bufferAfter}
-use Rattle.leaves.specs.declared.buffer.Made.the-variants.{Written}
-use Rattle.leaves.proofs.Written.{buffer-made}
+use Rattle.buffers.specs.declared.Made.the-variants.{Written}
+use Rattle.buffers.proofs.Written.{buffer-made}
 use Rattle.extents.proofs.extents_of.Reads as extents-of-reads
-use Rattle.leaves.proofs.buffer.verdict.Reads as verdict-reads
+use Rattle.buffers.proofs.verdict.Reads as verdict-reads
 use Rattle.writer.specs.Bytes.{tableAt}
 use Rattle.writer.proofs.Answering.{Found, nodes-are, root-encoded, root-found, found-comes}
 use Rattle.writer.proofs.put_node.Reads as put-node-reads

@@ -9,7 +9,7 @@ use mathlib.Core.Path.{refl, sym, _∙_}
 use mathlib.Core.List.{[]}
 use mathlib.Core.Option.{some}
 use lib.ListN.{length}
-use Rattle.leaves.proofs.Written.{written-none}
+use Rattle.buffers.proofs.Written.{written-none}
 use Rattle.parts.specs.Pass.{passShape}
 use Rattle.parts.proofs.Passing.{shape-none, shape-short, list-deep, list-cut, items-none}
 use Rattle.parts.proofs.Inside.{shape-inside}
@@ -25,8 +25,8 @@ use Rattle.writes.proofs.+put_items+put_shape.Lts-put_items as put-item
 use Rattle.writes.proofs.put_shape.Reads as put-shape
 use Rattle.writes.proofs.put_shape.Kinds as put-shape-kinds
 use Rattle.writes.proofs.+put_items+put_shape.Lts-put_shape as put-shape-lts
-use Rattle.leaves.proofs.buffer.put_byte.Reads as put-byte-reads
-use Rattle.leaves.proofs.buffer.put_part.Reads as put-part-reads
+use Rattle.buffers.proofs.put_byte.Reads as put-byte-reads
+use Rattle.buffers.proofs.put_part.Reads as put-part-reads
 use Rattle.parts.proofs.first_at.Reads as first-at-reads
 use Rattle.parts.proofs.list_at.Reads as list-at-reads
 use Rattle.parts.proofs.past_name.Reads as past-name-reads

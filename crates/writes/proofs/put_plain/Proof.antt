@@ -4,7 +4,7 @@ use borrow.Author.Needs.{needs}
 use native.Mathlib.Omega.{arith}
 use mathlib.Core.Path.{refl, sym, _∙_}
 use lib.Seq.{length-slice}
-use Rattle.leaves.proofs.Written.{written-none}
+use Rattle.buffers.proofs.Written.{written-none}
 use Rattle.parts.proofs.Passing.{shape-symbol, blank-cut, shape-blank}
 use Rattle.sheets.specs.Index.{blankIn}
 use Rattle.writes.specs.Writes.{writes}

@@ -9,7 +9,7 @@ use Prim.Native.Nat.{ℕ, _≤_, _<_}
 use Rattle.meaning.specs.Numbers.{twoBytes}
 use Rattle.meaning.specs.FirstByte.{shortBlanks}
 use Rattle.meaning.specs.Encode.{blankBytes}
-use Rattle.leaves.proofs.Written.{written-after}
+use Rattle.buffers.proofs.Written.{written-after}
 use Rattle.reader.specs.declared.first.Kind.the-variants.{Variable}
 use Rattle.parts.specs.Heads.{headBytes}
 use Rattle.parts.proofs.put.put_blank.Statement.{statement}

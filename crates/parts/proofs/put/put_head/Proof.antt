@@ -4,7 +4,7 @@ use borrow.Author.Needs.{needs}
 use native.Mathlib.Omega.{arith}
 use mathlib.Core.List.{[], _∷_}
 use Rattle.meaning.specs.Numbers.{twoBytes}
-use Rattle.leaves.proofs.Written.{written-after}
+use Rattle.buffers.proofs.Written.{written-after}
 use Rattle.parts.specs.Heads.{kindSays}
 use Rattle.parts.proofs.put.put_head.Statement.{statement}
 use Rattle.parts.proofs.put.put_head.Tie as tie

@@ -1,17 +1,17 @@
 // Bytes written into a lent buffer, from a place on, and whether a made shape can be.
-use crate::limits::MAX_BYTES;
-use crate::limits::MAX_LEVELS;
-use crate::refusals::BUFFER_SHORT;
-use crate::refusals::MADE_TOO_DEEP;
-use crate::refusals::MADE_TOO_LONG;
+use leaves::limits::MAX_BYTES;
+use leaves::limits::MAX_LEVELS;
+use leaves::refusals::BUFFER_SHORT;
+use leaves::refusals::MADE_TOO_DEEP;
+use leaves::refusals::MADE_TOO_LONG;
 ghost use mathlib.Core.Path.{_≡_};
 ghost use mathlib.Core.List.{_∷_, []};
 ghost use Prim.Native.Nat.{_≤_, _<_, _+_, _-_};
 ghost use lib.ListN.{length};
 ghost use lib.Seq.{slice};
 ghost use Rattle.meaning.specs.Numbers.{twoBytes, leb128};
-ghost use Rattle.leaves.specs.Written.{written};
-ghost use Rattle.leaves.specs.Verdicts.{verdictOf};
+ghost use Rattle.buffers.specs.Written.{written};
+ghost use Rattle.buffers.specs.Verdicts.{verdictOf};
 
 // What a call that writes into a lent buffer answers: how many bytes it wrote, or a refusal with its number and place.
 pub enum Made {

@@ -1,9 +1,9 @@
--- `leaves::buffer::put_byte` meets its contract.
+-- `buffers::put_byte` meets its contract.
 -- Assumes nothing.
 use borrow.Author.Needs.{needs}
-use Rattle.leaves.proofs.Written.{written-one}
-use Rattle.leaves.proofs.buffer.put_byte.Statement.{statement}
-use Rattle.leaves.proofs.buffer.put_byte.Tie as tie
+use Rattle.buffers.proofs.Written.{written-one}
+use Rattle.buffers.proofs.put_byte.Statement.{statement}
+use Rattle.buffers.proofs.put_byte.Tie as tie
 
 returns : tie.Need-returns
 returns c = written-one _ _ _ (c .pre)

@@ -17,7 +17,7 @@ use native.Mathlib.Numerals.{add-one}
 use lib.ListN.{length, take, drop, set, getD, length-append, length-drop, take-append-drop}
 use lib.Seq.{slice, set-split, length-take-le, length-slice, take-at, drop-at, drop-drop, drop-append-le, take-append-le, take-take, take-suc}
 use Rattle.meaning.specs.Answers.{answered, bufferAfter}
-use Rattle.leaves.specs.Written.{written}
+use Rattle.buffers.specs.Written.{written}
 
 pub written-length : (d : List ℕ) (to : ℕ) (w : List ℕ) → to + length w ≤ length d → length (written d to w) ≡ length d
 unfolding written

@@ -1,12 +1,12 @@
--- `leaves::buffer::put_two` meets its contract.
+-- `buffers::put_two` meets its contract.
 -- Assumes nothing.
 use borrow.Author.Needs.{needs}
 use native.Mathlib.Omega.{arith}
 use mathlib.Core.List.{[], _∷_}
 use Prim.Native.Nat.{_%_, _/_}
-use Rattle.leaves.proofs.Written.{written-after}
-use Rattle.leaves.proofs.buffer.put_two.Statement.{statement}
-use Rattle.leaves.proofs.buffer.put_two.Tie as tie
+use Rattle.buffers.proofs.Written.{written-after}
+use Rattle.buffers.proofs.put_two.Statement.{statement}
+use Rattle.buffers.proofs.put_two.Tie as tie
 
 returns : tie.Need-returns
 returns c =

@@ -12,9 +12,9 @@ use Rattle.meaning.specs.Shape.{Shape, depth}
 use Rattle.meaning.specs.Encode.{encode}
 use Rattle.meaning.specs.Answers.{answered, refused, inRoom, made}
 use Rattle.meaning.proofs.Rules.{rule, tests}
-use Rattle.leaves.specs.declared.buffer.Made.{Made}
-use Rattle.leaves.specs.declared.buffer.Made.the-variants.{Written, Refused}
-use Rattle.leaves.specs.Verdicts.{verdictOf}
+use Rattle.buffers.specs.declared.Made.{Made}
+use Rattle.buffers.specs.declared.Made.the-variants.{Written, Refused}
+use Rattle.buffers.specs.Verdicts.{verdictOf}
 
 -- what is answered of a shape, by the verdict; one that is written fits
 abbrev pub Comes : Shape → ℕ → Made → Type 0

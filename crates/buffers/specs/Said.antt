@@ -1,8 +1,8 @@
 -- What the answer of a call that writes into a lent buffer says: this paper's number and values for each of its cases. To be believed.
 use lib.ListN.{length}
 use Rattle.meaning.specs.Answers.{Answer, answered, refused}
-use Rattle.leaves.specs.declared.buffer.Made.{Made}
-use Rattle.leaves.specs.declared.buffer.Made.the-variants.{Written, Refused}
+use Rattle.buffers.specs.declared.Made.{Made}
+use Rattle.buffers.specs.declared.Made.the-variants.{Written, Refused}
 
 -- an answer is its bytes, written, and says how many they are; a refusal has its number and place
 abbrev pub madeSaid : Answer → Made

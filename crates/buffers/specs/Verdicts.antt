@@ -5,8 +5,8 @@ use lib.Dec.{ltb}
 use Rattle.meaning.specs.Rules.{_⇒_∣_}
 use Rattle.meaning.specs.Limits.{maxBytes, maxLevels}
 use Rattle.meaning.specs.Refusals.{bufferShort, madeTooDeep, madeTooLong}
-use Rattle.leaves.specs.declared.buffer.Made.{Made}
-use Rattle.leaves.specs.declared.buffer.Made.the-variants.{Written, Refused}
+use Rattle.buffers.specs.declared.Made.{Made}
+use Rattle.buffers.specs.declared.Made.the-variants.{Written, Refused}
 
 -- 15 and 16, both at 0, and 12 at the length needed, in a buffer of room bytes
 unfoldable pub verdictOf : ℕ → ℕ → ℕ → Made

@@ -1,4 +1,4 @@
--- `leaves::buffer::put_part` meets its contract. The invariant: the first i bytes of the part are written.
+-- `buffers::put_part` meets its contract. The invariant: the first i bytes of the part are written.
 -- Assumes nothing.
 use borrow.Author.Needs.{needs}
 use native.Mathlib.Omega.{arith}
@@ -8,10 +8,10 @@ use mathlib.Core.List.{List}
 use Prim.Native.Nat.{ℕ, _+_, _-_, _≤_}
 use lib.ListN.{length, length-set}
 use lib.Seq.{slice, slice-empty}
-use Rattle.leaves.specs.Written.{written}
-use Rattle.leaves.proofs.Written.{written-none, part-more}
-use Rattle.leaves.proofs.buffer.put_part.Statement.{statement}
-use Rattle.leaves.proofs.buffer.put_part.Tie as tie
+use Rattle.buffers.specs.Written.{written}
+use Rattle.buffers.proofs.Written.{written-none, part-more}
+use Rattle.buffers.proofs.put_part.Statement.{statement}
+use Rattle.buffers.proofs.put_part.Tie as tie
 
 abbrev Inv-loop : tie.InvT-loop
 Inv-loop out₀ to s from end size i₀ out i = (i ≤ size) × (length out ≡ length out₀) × (out ≡ written out₀ to (slice from (from + i) s))

@@ -1,9 +1,9 @@
--- `leaves::buffer::verdict` meets its contract.
+-- `buffers::verdict` meets its contract.
 -- Assumes nothing.
 use Rattle.meaning.proofs.Rules.{tests}
-use Rattle.leaves.specs.Verdicts.{verdictOf}
-use Rattle.leaves.proofs.buffer.verdict.Statement.{statement}
-use Rattle.leaves.proofs.buffer.verdict.Tie as tie
+use Rattle.buffers.specs.Verdicts.{verdictOf}
+use Rattle.buffers.proofs.verdict.Statement.{statement}
+use Rattle.buffers.proofs.verdict.Tie as tie
 
 pub verdict-spec : {M : Type 1} → statement M
 unfolding verdictOf

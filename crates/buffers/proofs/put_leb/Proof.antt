@@ -1,4 +1,4 @@
--- `leaves::buffer::put_leb` meets its contract.
+-- `buffers::put_leb` meets its contract.
 -- Assumes nothing.
 use borrow.Author.Needs.{needs}
 use borrow.Author.Tests.{lt-ltb, le-ltb}
@@ -7,9 +7,9 @@ use mathlib.Core.Path.{_≡_, refl}
 use mathlib.Core.List.{[], _∷_}
 use Prim.Native.Nat.{ℕ, _+_, _/_, _%_, _≤_, _<_}
 use Rattle.meaning.specs.Numbers.{leb128}
-use Rattle.leaves.proofs.Written.{written-after}
-use Rattle.leaves.proofs.buffer.put_leb.Statement.{statement}
-use Rattle.leaves.proofs.buffer.put_leb.Tie as tie
+use Rattle.buffers.proofs.Written.{written-after}
+use Rattle.buffers.proofs.put_leb.Statement.{statement}
+use Rattle.buffers.proofs.put_leb.Tie as tie
 
 -- A number under 128 is its own byte.
 one : (n : ℕ) → n < 128 → leb128 n ≡ n ∷ []
