@@ -396,9 +396,8 @@ impl fmt::Display for AllLent {
             let comma = if i == 0 { "" } else { ", " };
             write!(out, "{comma}{outcome}")?;
             // what is in a long buffer would not be read
-            match buffer.len() {
-                1..=64 => write!(out, " [{}]", hex(buffer))?,
-                _ => (),
+            if (1..=64).contains(&buffer.len()) {
+                write!(out, " [{}]", hex(buffer))?;
             }
         }
         Ok(())
