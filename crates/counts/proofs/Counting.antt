@@ -20,10 +20,10 @@ use lib.Seq.{slice, length-slice, take-length}
 use Rattle.meaning.proofs.Rules.{facts}
 use Rattle.meaning.proofs.Window.{window-take}
 use Rattle.leaves.proofs.Numbers.{steps, leb-steps}
-use Rattle.reader.specs.Walk.{shaped}
-use Rattle.reader.specs.declared.first.First.the-variants.{Long}
-use Rattle.reader.specs.declared.first.Kind.{Kind}
-use Rattle.reader.specs.declared.first.Kind.the-variants.{Symbol}
+use Rattle.payloads.specs.Payload.{shaped}
+use Rattle.payloads.specs.declared.first.First.the-variants.{Long}
+use Rattle.payloads.specs.declared.first.Kind.{Kind}
+use Rattle.payloads.specs.declared.first.Kind.the-variants.{Symbol}
 use Rattle.parts.specs.declared.Listing.{Listing}
 use Rattle.parts.specs.Steps.{headSize, firstAt, pastName, listAt, ListingInside}
 use Rattle.parts.specs.Pass.{Came, came, Passer, passItems, passShape}

@@ -19,9 +19,9 @@ use Rattle.meaning.specs.Encode.{textBytes}
 use Rattle.meaning.specs.Table.{Node, Link, Name, Table, node, nodesBytes, linksBytes, namesBytes, Grown, namesFrom, joined, bareLinks, namedLinks, textLinks, withNode}
 use Rattle.meaning.proofs.TableBytes.{nodes-append}
 use Rattle.meaning.proofs.TableOf.{names-length}
-use Rattle.reader.specs.Walk.{named, shaped}
-use Rattle.reader.specs.declared.first.Kind.{Kind}
-use Rattle.reader.specs.declared.first.Kind.the-variants.{Record, Symbol}
+use Rattle.payloads.specs.Payload.{named, shaped}
+use Rattle.payloads.specs.declared.first.Kind.{Kind}
+use Rattle.payloads.specs.declared.first.Kind.the-variants.{Record, Symbol}
 use Rattle.counts.specs.declared.Counts.{Counts}
 use Rattle.counts.specs.declared.Section.{Section}
 use Rattle.counts.specs.declared.Section.the-variants.{Nodes, Links, Names, Text}

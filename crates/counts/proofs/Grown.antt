@@ -21,7 +21,7 @@ use Rattle.meaning.proofs.Complete.{leb-pos, array-long, map-long}
 use Rattle.meaning.proofs.Lists.{fields-count, field-names}
 use Rattle.meaning.proofs.TableBytes.{table-length}
 use Rattle.meaning.proofs.TableSize.{made-within}
-use Rattle.reader.specs.declared.first.Kind.the-variants.{Record, Function, Symbol}
+use Rattle.payloads.specs.declared.first.Kind.the-variants.{Record, Function, Symbol}
 use Rattle.counts.specs.declared.Counts.{Counts}
 use Rattle.counts.specs.declared.Section.the-variants.{Nodes, Links, Names, Text}
 use Rattle.counts.specs.Pieces.{Few, Gathered, noItems, withItem, tableSize, sections}

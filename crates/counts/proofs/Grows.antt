@@ -11,7 +11,7 @@ use native.Mathlib.Nat.{add-zero, zero-add}
 use native.Mathlib.Omega.{arith}
 use lib.ListN.{length, length-append}
 use lib.Seq.{slice}
-use Rattle.reader.specs.declared.first.Kind.{Kind}
+use Rattle.payloads.specs.declared.first.Kind.{Kind}
 use Rattle.parts.specs.Steps.{pastName}
 use Rattle.parts.specs.Pass.{Passer, passItems}
 use Rattle.counts.specs.declared.Counts.{Counts}

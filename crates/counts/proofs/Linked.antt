@@ -9,11 +9,11 @@ use lib.Dec.{ltb, eqb}
 use lib.ListN.{length}
 use Rattle.meaning.specs.FirstByte.{shortBlanks, arrayByte, mapByte}
 use Rattle.meaning.proofs.Rules.{rule}
-use Rattle.reader.specs.Walk.{named}
-use Rattle.reader.specs.declared.first.Kind.{Kind}
-use Rattle.reader.specs.declared.first.Kind.the-variants.{Array, Map, Record, Function, Symbol, Variable}
-use Rattle.reader.specs.declared.first.First.{First}
-use Rattle.reader.specs.declared.first.First.the-variants.{Unassigned, Short, Long}
+use Rattle.payloads.specs.Payload.{named}
+use Rattle.payloads.specs.declared.first.Kind.{Kind}
+use Rattle.payloads.specs.declared.first.Kind.the-variants.{Array, Map, Record, Function, Symbol, Variable}
+use Rattle.payloads.specs.declared.first.First.{First}
+use Rattle.payloads.specs.declared.first.First.the-variants.{Unassigned, Short, Long}
 use Rattle.parts.specs.Steps.{firstAt, listAt, pastName}
 use Rattle.parts.specs.declared.Listing.{Listing}
 use Rattle.parts.specs.Pass.{Came, came, Passer, passItems, passList, passLong, passFirst, passShape}

@@ -15,7 +15,7 @@ use Rattle.meaning.specs.Parts.{bare, lone, fieldItems, parameterItems, nameByt
 use Rattle.meaning.specs.Parts as Parts
 use Rattle.meaning.proofs.Sound.{by-class}
 use Rattle.meaning.proofs.Complete.{code-small, leb-pos, texts-le}
-use Rattle.reader.specs.declared.first.Kind.the-variants.{Array, Map, Record, Function, Symbol}
+use Rattle.payloads.specs.declared.first.Kind.the-variants.{Array, Map, Record, Function, Symbol}
 use Rattle.parts.specs.Steps.{listAt}
 use Rattle.parts.proofs.Places.{Stands, stands-length, stands-after, leb-at, of-lone, past-name}
 use Rattle.parts.proofs.Passed.{stands-slice, gathered, Making}

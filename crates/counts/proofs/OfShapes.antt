@@ -7,7 +7,7 @@ use Rattle.meaning.specs.Shape.{Text, Sort, shape, fields, parameters, Tree, pr
 use Rattle.meaning.specs.FirstByte.{code}
 use Rattle.meaning.specs.Encode.{textBytes}
 use Rattle.meaning.specs.Table.{variableKind}
-use Rattle.reader.specs.declared.first.Kind.the-variants.{Array, Map, Record, Function, Symbol}
+use Rattle.payloads.specs.declared.first.Kind.the-variants.{Array, Map, Record, Function, Symbol}
 use Rattle.counts.specs.Pieces.{Piece, Gathered, nothing, single, noItems, withItem, listPiece}
 
 -- what is made of a shape, of fields and of parameters

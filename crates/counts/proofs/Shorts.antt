@@ -11,7 +11,7 @@ use borrow.Author.Tests.{lt-ltb, le-ltb}
 use Rattle.meaning.specs.FirstByte.{shortBlanks, primByte, arrayByte, mapByte}
 use Rattle.meaning.specs.Table.{variableKind}
 use Rattle.meaning.proofs.Rules.{rule}
-use Rattle.reader.specs.declared.first.Kind.the-variants.{Array, Map}
+use Rattle.payloads.specs.declared.first.Kind.the-variants.{Array, Map}
 use Rattle.counts.specs.Pieces.{many, Piece, single, listPiece, packedArray, packedMap, shortPiece}
 
 module _ (b : ℕ) where

@@ -12,9 +12,9 @@ use Rattle.meaning.specs.Table.{arrayKind, mapKind, recordKind, functionKind, s
 use Rattle.leaves.specs.Leb.{lebAt}
 use Rattle.leaves.specs.declared.Leb.{Leb}
 use Rattle.leaves.specs.declared.Leb.the-variants.{Number, Fault}
-use Rattle.reader.specs.Walk.{named, shaped}
-use Rattle.reader.specs.declared.first.Kind.{Kind}
-use Rattle.reader.specs.declared.first.Kind.the-variants.{Array, Map, Record, Function, Symbol, Variable}
+use Rattle.payloads.specs.Payload.{named, shaped}
+use Rattle.payloads.specs.declared.first.Kind.{Kind}
+use Rattle.payloads.specs.declared.first.Kind.the-variants.{Array, Map, Record, Function, Symbol, Variable}
 use Rattle.parts.specs.Steps.{headSize, pastName, listAt}
 use Rattle.parts.specs.Pass.{came, Pass, Passer, passShape}
 use Rattle.tables.specs.Places.{nodeBytes}

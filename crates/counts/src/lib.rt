@@ -2,17 +2,17 @@
 use leaves::Leb;
 use parts::HEAD_SIZE;
 use parts::LONG_BLANK;
-use reader::first::First;
-use reader::first::Kind;
-use reader::first::PACKED;
-use reader::first::PACKED_MAPS;
+use payloads::first::First;
+use payloads::first::Kind;
+use payloads::first::PACKED;
+use payloads::first::PACKED_MAPS;
 ghost use mathlib.Core.Path.{_≡_};
 ghost use mathlib.Core.Bool.{false};
 ghost use Prim.Native.Nat.{_≤_, _<_, _+_};
 ghost use lib.ListN.{length};
 ghost use Rattle.meaning.specs.Limits.{maxLevels};
-ghost use Rattle.reader.specs.declared.first.First.the-variants.{Long};
-ghost use Rattle.reader.specs.Walk.{shaped};
+ghost use Rattle.payloads.specs.declared.first.First.the-variants.{Long};
+ghost use Rattle.payloads.specs.Payload.{shaped};
 ghost use Rattle.parts.specs.Steps.{firstAt};
 ghost use Rattle.parts.specs.Pass.{passItems, passShape};
 ghost use Rattle.counts.specs.Pieces.{many, none, plus, Few, textFrom, textIn, noItems, ownCounts, shortPiece, symbolPiece, pieces, inner};
@@ -94,7 +94,7 @@ pub fn text_size(w: &[u8]) -> usize
 pub fn own_counts(kind: Kind, items: usize, text: usize) -> Counts
     ensures { λ r. ⌜ r ≡ ownCounts kind items text ⌝ }
 {
-    if reader::payload::named_kind(kind) {
+    if payloads::named_kind(kind) {
         return Counts {
             nodes: 1,
             links: items,
@@ -160,7 +160,7 @@ pub fn count_plain(s: &[u8], at: usize, left: usize, kind: Kind) -> Counted
     requires { ⌜ (at < length (now s)) × (length (now s) < 65536) × (firstAt (now s) at ≡ Long kind) × (shaped kind ≡ false) ⌝ }
     ensures { λ r. ⌜ CountedIs (now (s .entry)) r (passShape pieces left (now (s .entry)) at) ⌝ }
 {
-    if reader::payload::named_kind(kind) {
+    if payloads::named_kind(kind) {
         let next = parts::past_long(s, at);
         return Counted {
             next,
@@ -194,7 +194,7 @@ pub fn count_at(s: &[u8], at: usize, left: usize) -> Counted
             counts: short_counts(s[at]),
         },
         First::Long { kind } => {
-            if reader::payload::shaped_kind(kind) {
+            if payloads::shaped_kind(kind) {
                 if left == 0 {
                     return Counted {
                         next: at,
@@ -248,7 +248,7 @@ pub fn count_inner(s: &[u8], at: usize, left: usize, kind: Kind) -> Counted
     requires { ⌜ (at ≤ length (now s)) × (length (now s) < 65536) × (left ≤ maxLevels) × Few (inner left kind (now s) at .made .counts) ⌝ }
     ensures { λ r. ⌜ CountedIs (now (s .entry)) r (inner left kind (now (s .entry)) at) ⌝ }
 {
-    if reader::payload::shaped_kind(kind) {
+    if payloads::shaped_kind(kind) {
         return count_at(s, at, left);
     }
     Counted {

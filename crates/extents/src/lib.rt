@@ -4,7 +4,7 @@ use leaves::limits::MAX_BYTES;
 use leaves::limits::MAX_LEVELS;
 use parts::HEAD_SIZE;
 use parts::LONG_BLANK;
-use reader::first::SHORT_BLANKS;
+use payloads::first::SHORT_BLANKS;
 use tables::ARRAY;
 use tables::FUNCTION;
 use tables::Link;

@@ -13,11 +13,11 @@ use Rattle.leaves.specs.Leb.{lebAt}
 use Rattle.leaves.specs.declared.Leb.{Leb}
 use Rattle.leaves.specs.declared.Leb.the-variants.{Number, Fault}
 use Rattle.leaves.proofs.Numbers.{steps, leb-steps}
-use Rattle.reader.specs.Walk.{named, sizeAt}
-use Rattle.reader.specs.declared.first.Kind.{Kind}
-use Rattle.reader.specs.declared.first.Kind.the-variants.{Array, Map, Record, Function, Symbol, Variable}
-use Rattle.reader.specs.declared.first.First.{First}
-use Rattle.reader.specs.declared.first.First.the-variants.{Unassigned, Short, Long}
+use Rattle.payloads.specs.Payload.{named, sizeAt}
+use Rattle.payloads.specs.declared.first.Kind.{Kind}
+use Rattle.payloads.specs.declared.first.Kind.the-variants.{Array, Map, Record, Function, Symbol, Variable}
+use Rattle.payloads.specs.declared.first.First.{First}
+use Rattle.payloads.specs.declared.first.First.the-variants.{Unassigned, Short, Long}
 use Rattle.parts.specs.Steps.{firstAt, pastLong, pastLeb, pastText, pastName, countedBy, listAt}
 use Rattle.parts.specs.Pass.{Came, Pass, Passer, passItems, passList, passLong, passFirst, passShape}
 

@@ -19,8 +19,8 @@ use Rattle.meaning.proofs.Rules.{both}
 use Rattle.meaning.proofs.Complete.{leb-pos}
 use Rattle.meaning.proofs.Parts.{item-bytes}
 use Rattle.meaning.proofs.Lists.{list-of, child-is, textOf, name-is}
-use Rattle.reader.specs.declared.first.Kind as first
-use Rattle.reader.specs.Walk as Walk
+use Rattle.payloads.specs.declared.first.Kind as first
+use Rattle.payloads.specs.Payload as Payload
 use Rattle.parts.specs.declared.FoundChild.the-variants as child
 use Rattle.parts.specs.declared.FoundName.the-variants as name
 use Rattle.parts.specs.Said.{childSaid, nameSaid, toldChild}
@@ -31,8 +31,8 @@ use Rattle.parts.proofs.Places.{Stands, stands-length, stands-after, pa
 pub record Listed (t : Shape) (kind : first.Kind) : Type 0 where
   pub list : (s : List ℕ) (at : ℕ) (x : List ℕ) → at ≤ length s → Stands s at (encode t ++ x) → listAt s (at + 3) kind ≡ listing (at + listStart t) (length (items t))
   pub all : AllOf kind (items t)
-  pub children : length (children t) ≡ (Walk.shaped kind ⇒ length (items t) ∣ λ _. 0)
-  pub names : length (names t) ≡ (Walk.named kind ⇒ length (items t) ∣ λ _. 0)
+  pub children : length (children t) ≡ (Payload.shaped kind ⇒ length (items t) ∣ λ _. 0)
+  pub names : length (names t) ≡ (Payload.named kind ⇒ length (items t) ∣ λ _. 0)
   pub long : hasShort t ≡ false
 
 of-at : (kind : first.Kind) (is : List Item) (k : ℕ) (d : Item) → AllOf kind is → k < length is → Of kind (getD is k d)
@@ -56,7 +56,7 @@ here t kind l k h =
       stands = item-bytes t k (l .long) h;
     }
 
-child-at : (s : List ℕ) (start : ℕ) (kind : first.Kind) (i : Item) (x : List ℕ) → Of kind i → Walk.shaped kind ≡ true → Stands s start (shapeBytes i ++ x)
+child-at : (s : List ℕ) (start : ℕ) (kind : first.Kind) (i : Item) (x : List ℕ) → Of kind i → Payload.shaped kind ≡ true → Stands s start (shapeBytes i ++ x)
     → childFrom s start ≡ child.Part start (length (shapeBytes i))
 unfolding shapeBytes
 child-at s start kind i x (of-bare c n p) q h = rw (past-shape s start c x h) (ap (child.Part start) (omega arith))
@@ -66,7 +66,7 @@ child-at s start kind i x (of-lone t n p b) q h = cc
 text-inside : (s : List ℕ) (at : ℕ) (t x : List ℕ) → Stands s at (textBytes t ++ x) → at ≤ length s
 text-inside s at t x h = let l = simp length-append at (stands-length s at _ h) in omega (arith, leb-pos (length t))
 
-name-at : (s : List ℕ) (at : ℕ) (kind : first.Kind) (i : Item) (x : List ℕ) → Of kind i → Walk.named kind ≡ true → Stands s at (nameBytes i ++ x)
+name-at : (s : List ℕ) (at : ℕ) (kind : first.Kind) (i : Item) (x : List ℕ) → Of kind i → Payload.named kind ≡ true → Stands s at (nameBytes i ++ x)
     → nameFrom s at ≡ name.Text (at + length (leb128 (length (textOf i)))) (length (textOf i))
 unfolding nameBytes nameFrom textOf
 name-at s at kind i x (of-bare c n p) q h = cc
@@ -80,32 +80,32 @@ at-root t kind l = l .list (encode t) 0 [] (omega arith) (sym (append-nil (encod
 module _ (t : Shape) (kind : first.Kind) (l : Listed t kind) (k : ℕ) where
   pub child-listed : childIn (encode t) kind k (listAt (encode t) 3 kind) ≡ childSaid (got t []) k
   unfolding childIn childOf
-  child-listed = rw (at-root t kind l, l .children) (go (Walk.shaped kind) refl)
+  child-listed = rw (at-root t kind l, l .children) (go (Payload.shaped kind) refl)
     where
-      found : k < length (items t) → Walk.shaped kind ≡ true → childFrom (encode t) (pastName (encode t) (pastItems (encode t) kind k (listStart t)) kind) ≡ toldChild (childOf t k)
+      found : k < length (items t) → Payload.shaped kind ≡ true → childFrom (encode t) (pastName (encode t) (pastItems (encode t) kind k (listStart t)) kind) ≡ toldChild (childOf t k)
       found h q =
           let e = here t kind l k h in
           let n : k < length (children t) = rw (l .children, q) h in
           rw (e .place, past-name (encode t) (itemPlace t k) kind (itemOf t k) _ (e .of) (e .stands), l .long, ← child-is t k n)
           (child-at (encode t) _ kind (itemOf t k) (e .after) (e .of) q (stands-after (encode t) (itemPlace t k) (nameBytes (itemOf t k)) _ (e .stands)))
 
-      go : (b : Bool) → Walk.shaped kind ≡ b
-          → (Walk.shaped kind ⇒ (ltb k (length (items t)) ⇒ childFrom (encode t) (pastName (encode t) (pastItems (encode t) kind k (listStart t)) kind) ∣ λ _. child.Refused noSuchPart (length (items t))) ∣ λ _. child.Refused noSuchPart 0)
-          ≡ (ltb k (Walk.shaped kind ⇒ length (items t) ∣ λ _. 0) ⇒ toldChild (childOf t k) ∣ λ _. child.Refused noSuchPart (Walk.shaped kind ⇒ length (items t) ∣ λ _. 0))
+      go : (b : Bool) → Payload.shaped kind ≡ b
+          → (Payload.shaped kind ⇒ (ltb k (length (items t)) ⇒ childFrom (encode t) (pastName (encode t) (pastItems (encode t) kind k (listStart t)) kind) ∣ λ _. child.Refused noSuchPart (length (items t))) ∣ λ _. child.Refused noSuchPart 0)
+          ≡ (ltb k (Payload.shaped kind ⇒ length (items t) ∣ λ _. 0) ⇒ toldChild (childOf t k) ∣ λ _. child.Refused noSuchPart (Payload.shaped kind ⇒ length (items t) ∣ λ _. 0))
       go true q = rw q (both (λ a b. a ≡ b) (ltb k (length (items t))) _ _ _ _ (λ p. found (ltb-true _ _ p) q) (λ p. refl))
       go false q = rw (q, le-ltb k 0 (omega arith))
 
   pub name-listed : nameIn (encode t) kind k (listAt (encode t) 3 kind) ≡ nameSaid (got t []) k
   unfolding nameIn
-  name-listed = rw (at-root t kind l, l .names) (go (Walk.named kind) refl)
+  name-listed = rw (at-root t kind l, l .names) (go (Payload.named kind) refl)
     where
-      found : k < length (items t) → Walk.named kind ≡ true → nameFrom (encode t) (pastItems (encode t) kind k (listStart t)) ≡ name.Text (namePlace t k) (length (nameText t k))
+      found : k < length (items t) → Payload.named kind ≡ true → nameFrom (encode t) (pastItems (encode t) kind k (listStart t)) ≡ name.Text (namePlace t k) (length (nameText t k))
       found h q =
           let e = here t kind l k h in
           rw (e .place, ← name-is t k) (name-at (encode t) (itemPlace t k) kind (itemOf t k) _ (e .of) q (e .stands))
 
-      go : (b : Bool) → Walk.named kind ≡ b
-          → (Walk.named kind ⇒ (ltb k (length (items t)) ⇒ nameFrom (encode t) (pastItems (encode t) kind k (listStart t)) ∣ λ _. name.Refused noSuchPart (length (items t))) ∣ λ _. name.Refused noSuchPart 0)
-          ≡ (ltb k (Walk.named kind ⇒ length (items t) ∣ λ _. 0) ⇒ name.Text (namePlace t k) (length (nameText t k)) ∣ λ _. name.Refused noSuchPart (Walk.named kind ⇒ length (items t) ∣ λ _. 0))
+      go : (b : Bool) → Payload.named kind ≡ b
+          → (Payload.named kind ⇒ (ltb k (length (items t)) ⇒ nameFrom (encode t) (pastItems (encode t) kind k (listStart t)) ∣ λ _. name.Refused noSuchPart (length (items t))) ∣ λ _. name.Refused noSuchPart 0)
+          ≡ (ltb k (Payload.named kind ⇒ length (items t) ∣ λ _. 0) ⇒ name.Text (namePlace t k) (length (nameText t k)) ∣ λ _. name.Refused noSuchPart (Payload.named kind ⇒ length (items t) ∣ λ _. 0))
       go true q = rw q (both (λ a b. a ≡ b) (ltb k (length (items t))) _ _ _ _ (λ p. found (ltb-true _ _ p) q) (λ p. refl))
       go false q = rw (q, le-ltb k 0 (omega arith))

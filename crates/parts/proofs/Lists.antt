@@ -17,7 +17,7 @@ use Rattle.meaning.specs.Parts.{bare, fieldItems, parameterItems, textItems, it
 use Rattle.meaning.proofs.Lists.{fields-count, parameters-count, texts-count, field-shapes, field-names, parameter-shapes}
 use Rattle.meaning.proofs.Complete.{count-le, texts-le}
 use Rattle.leaves.specs.Leb.{lebAt}
-use Rattle.reader.specs.declared.first.Kind.the-variants.{Array, Map, Record, Function, Symbol}
+use Rattle.payloads.specs.declared.first.Kind.the-variants.{Array, Map, Record, Function, Symbol}
 use Rattle.parts.specs.Steps.{listing, countedBy, listAt}
 use Rattle.parts.proofs.Places.{Stands, stands-length, stands-after, leb-at, of-bare, of-named, of-lone, AllOf}
 use Rattle.parts.proofs.Listed.{Listed}

@@ -26,10 +26,10 @@ use Rattle.meaning.proofs.Sound.{long-array, long-map}
 use Rattle.meaning.proofs.Complete.{two-value, class-kind, array-long, map-long, encode-pos, depth-pos, count-le}
 use Rattle.meaning.proofs.Heads.{Head, whole-byte, packed-byte, payload, head-of}
 use Rattle.meaning.proofs.Lists.{list-append, fields-list, parameters-list, fields-count, parameters-count}
-use Rattle.reader.specs.First.{firstSaid, kindSaid}
-use Rattle.reader.specs.Walk as Walk
-use Rattle.reader.specs.declared.first.Kind as first
-use Rattle.reader.specs.declared.first.Kind.the-variants.{Array, Map, Record, Function}
+use Rattle.payloads.specs.First.{firstSaid, kindSaid}
+use Rattle.payloads.specs.Payload as Payload
+use Rattle.payloads.specs.declared.first.Kind as first
+use Rattle.payloads.specs.declared.first.Kind.the-variants.{Array, Map, Record, Function}
 use Rattle.parts.specs.Steps.{firstAt, listing, listAt}
 use Rattle.parts.specs.Pass.{came, Pass, Passer, passItems, passList, passLong, passFirst, passShape}
 use Rattle.parts.proofs.Places.{Stands, stands-length, stands-byte, stands-after, past-long, leb-at, Of, of-bare, of-named, of-lone, AllOf, past-name}
@@ -98,7 +98,7 @@ parameters-fit noParameters r left d e h g = (e, g, tt)
 parameters-fit (parameter s p) r left d e h g = let k = simp length-append at h in (omega arith, omega arith, parameters-fit p r left (omega arith) e (omega arith) g)
 
 -- An item of a list of shapes ends in the bytes of its shape.
-shape-of : (kind : first.Kind) (i : Item) → Walk.shaped kind ≡ true → Of kind i → shapeBytes i ≡ encode (itemShape i)
+shape-of : (kind : first.Kind) (i : Item) → Payload.shaped kind ≡ true → Of kind i → shapeBytes i ≡ encode (itemShape i)
 unfolding shapeBytes
 shape-of kind i p (of-bare c n q) = refl
 shape-of kind i p (of-named t c n q b) = refl
@@ -166,7 +166,7 @@ Makes v inner s left =
 
 module _ {X A : Type 0} (F : Pass X A) (v : Shape → X) where
   -- Over a list the pass gathers what it should of the items, if inner makes v of their shapes.
-  items-made : (inner : Passer X) (s : List ℕ) (left : ℕ) → Makes v inner s left → (kind : first.Kind) → Walk.shaped kind ≡ true
+  items-made : (inner : Passer X) (s : List ℕ) (left : ℕ) → Makes v inner s left → (kind : first.Kind) → Payload.shaped kind ≡ true
       → (is : List Item) (at : ℕ) (a : A) (x : List ℕ) → AllOf kind is → Fit left is → Stands s at (listBytes is ++ x)
       → passItems F inner kind (length is) s at a ≡ came (at + length (listBytes is)) (gathered F v a is)
   unfolding passItems listBytes
@@ -189,7 +189,7 @@ module _ {X A : Type 0} (F : Pass X A) (v : Shape → X) where
       (ap (λ (n : ℕ). came n (gathered F v z is)) (simp length-append (omega arith)))
 
   -- Over a shape with a list it then makes v of that shape.
-  list-made : (inner : Passer X) (s : List ℕ) (left : ℕ) → Makes v inner s left → (t : Shape) (k : Meant.Kind) → Walk.shaped (kindSaid k) ≡ true → OfItems t k
+  list-made : (inner : Passer X) (s : List ℕ) (left : ℕ) → Makes v inner s left → (t : Shape) (k : Meant.Kind) → Payload.shaped (kindSaid k) ≡ true → OfItems t k
       → F .list (kindSaid k) (countBytes t) (gathered F v (F .start) (items t)) ≡ v t
       → (at : ℕ) (x : List ℕ) → Stands s at (encode t ++ x) → depth t ≤ suc left
       → passList F (suc left) inner s at (kindSaid k) ≡ came (at + length (encode t)) (v t)

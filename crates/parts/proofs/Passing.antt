@@ -15,10 +15,10 @@ use lib.ListN.{length, getD}
 use lib.Seq.{slice}
 use borrow.Author.Tests.{le-ltb, lt-ltb, eq-eqb, ne-eqb}
 use Rattle.meaning.specs.Rules.{_⇒_∣_}
-use Rattle.reader.specs.Walk.{named, shaped, sizeAt}
-use Rattle.reader.specs.declared.first.Kind.{Kind}
-use Rattle.reader.specs.declared.first.Kind.the-variants.{Array, Map, Record, Function, Symbol, Variable}
-use Rattle.reader.specs.declared.first.First.the-variants.{Unassigned, Short, Long}
+use Rattle.payloads.specs.Payload.{named, shaped, sizeAt}
+use Rattle.payloads.specs.declared.first.Kind.{Kind}
+use Rattle.payloads.specs.declared.first.Kind.the-variants.{Array, Map, Record, Function, Symbol, Variable}
+use Rattle.payloads.specs.declared.first.First.the-variants.{Unassigned, Short, Long}
 use Rattle.parts.specs.Steps.{headSize, firstAt, pastLong, pastName, listAt}
 use Rattle.parts.specs.Pass.{came, Pass, Passer, longBlank, passItems, passed, passList, passLong, passFirst, passShape}
 

@@ -22,9 +22,9 @@ use Rattle.meaning.proofs.Complete.{count-reads, two-value, class-kind, encode-
 use Rattle.meaning.proofs.Heads.{Head, whole-byte, packed-byte, payload, head-of}
 use Rattle.leaves.specs.Leb.{lebAt}
 use Rattle.leaves.specs.declared.Leb.the-variants.{Number}
-use Rattle.reader.specs.First.{firstSaid}
-use Rattle.reader.specs.Walk as Walk
-use Rattle.reader.specs.declared.first.Kind as first
+use Rattle.payloads.specs.First.{firstSaid}
+use Rattle.payloads.specs.Payload as Payload
+use Rattle.payloads.specs.declared.first.Kind as first
 use Rattle.parts.specs.Steps.{firstAt, pastLong, pastFirst, pastShape, pastText, pastName, pastItem, pastItems}
 
 -- a list stands at a place of the input, up to its end
@@ -83,9 +83,9 @@ past-text s at t x b h =
 
 -- an item of a kind's list has a name where the kind has names, and a shape where it has shapes; its name is no longer than a length can say
 pub data Of (kind : first.Kind) : Item → Type 0 where
-  of-bare : (s : Shape) → Walk.named kind ≡ false → Walk.shaped kind ≡ true → Of kind (bare s)
-  of-named : (t : Text) (s : Shape) → Walk.named kind ≡ true → Walk.shaped kind ≡ true → length t < 16384 → Of kind (named t s)
-  of-lone : (t : Text) → Walk.named kind ≡ true → Walk.shaped kind ≡ false → length t < 16384 → Of kind (lone t)
+  of-bare : (s : Shape) → Payload.named kind ≡ false → Payload.shaped kind ≡ true → Of kind (bare s)
+  of-named : (t : Text) (s : Shape) → Payload.named kind ≡ true → Payload.shaped kind ≡ true → length t < 16384 → Of kind (named t s)
+  of-lone : (t : Text) → Payload.named kind ≡ true → Payload.shaped kind ≡ false → length t < 16384 → Of kind (lone t)
 
 abbrev pub AllOf : first.Kind → List Item → Type 0
 AllOf kind [] = Unit {0}
@@ -103,7 +103,7 @@ unfolding pastItem shapeBytes
 past-item s at kind i x o h = rw (past-name s at kind i _ o h) (go i o (stands-after s at (nameBytes i) _ h))
   where
     go : (j : Item) → Of kind j → Stands s (at + length (nameBytes i)) (shapeBytes j ++ x)
-        → (Walk.shaped kind ⇒ pastShape s (at + length (nameBytes i)) ∣ λ _. at + length (nameBytes i)) ≡ at + length (nameBytes i) + length (shapeBytes j)
+        → (Payload.shaped kind ⇒ pastShape s (at + length (nameBytes i)) ∣ λ _. at + length (nameBytes i)) ≡ at + length (nameBytes i) + length (shapeBytes j)
     go j (of-bare c n p) g = rw p (past-shape s _ c x g)
     go j (of-named t c n p b) g = rw p (past-shape s _ c x g)
     go j (of-lone t n p b) g = rw p (sym (add-zero _))

@@ -7,7 +7,7 @@ use mathlib.Core.List.{List}
 use Prim.Native.Nat.{ℕ, zero, suc, _-_, _<_, _≤_}
 use native.Mathlib.Numerals.{sub-one}
 use native.Mathlib.Omega.{arith}
-use Rattle.reader.specs.declared.first.Kind.{Kind}
+use Rattle.payloads.specs.declared.first.Kind.{Kind}
 use Rattle.parts.specs.Steps.{pastItem, pastItems}
 
 module _ (s : List ℕ) (kind : Kind) (at : ℕ) where

@@ -20,8 +20,8 @@ use Rattle.meaning.specs.Encode.{sized, asPrim, arrayBytes, mapBytes, blankByte
 use Rattle.meaning.specs.Reading.{got, hasShort}
 use Rattle.meaning.specs.Parts.{items, children, names, childOf}
 use Rattle.meaning.proofs.Complete.{class-prim, class-array, class-map, class-blank, class-kind, code-small}
-use Rattle.reader.specs.First.{kindSaid}
-use Rattle.reader.specs.declared.first.Kind.the-variants.{Array, Map, Record, Function, Symbol, Variable}
+use Rattle.payloads.specs.First.{kindSaid}
+use Rattle.payloads.specs.declared.first.Kind.the-variants.{Array, Map, Record, Function, Symbol, Variable}
 use Rattle.parts.specs.declared.Listing.{Listing}
 use Rattle.parts.specs.declared.FoundChild.the-variants as child
 use Rattle.parts.specs.declared.FoundName.the-variants as name

@@ -4,8 +4,8 @@ use mathlib.Core.List.{List, _∷_}
 use Rattle.meaning.specs.Numbers.{twoBytes}
 use Rattle.meaning.specs.FirstByte.{kindByte}
 use Rattle.meaning.specs.FirstByte as Meant
-use Rattle.reader.specs.declared.first.Kind.{Kind}
-use Rattle.reader.specs.declared.first.Kind.the-variants.{Array, Map, Record, Function, Symbol, Variable}
+use Rattle.payloads.specs.declared.first.Kind.{Kind}
+use Rattle.payloads.specs.declared.first.Kind.the-variants.{Array, Map, Record, Function, Symbol, Variable}
 
 -- the first byte of a kind
 abbrev pub kindSays : Kind → ℕ

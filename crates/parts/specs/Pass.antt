@@ -7,11 +7,11 @@ use lib.ListN.{length, getD}
 use lib.Seq.{slice}
 use lib.Dec.{ltb, eqb}
 use Rattle.meaning.specs.Rules.{_⇒_∣_}
-use Rattle.reader.specs.Walk.{sizeAt}
-use Rattle.reader.specs.declared.first.Kind.{Kind}
-use Rattle.reader.specs.declared.first.Kind.the-variants.{Array, Map, Record, Function, Symbol, Variable}
-use Rattle.reader.specs.declared.first.First.{First}
-use Rattle.reader.specs.declared.first.First.the-variants.{Unassigned, Short, Long}
+use Rattle.payloads.specs.Payload.{sizeAt}
+use Rattle.payloads.specs.declared.first.Kind.{Kind}
+use Rattle.payloads.specs.declared.first.Kind.the-variants.{Array, Map, Record, Function, Symbol, Variable}
+use Rattle.payloads.specs.declared.first.First.{First}
+use Rattle.payloads.specs.declared.first.First.the-variants.{Unassigned, Short, Long}
 use Rattle.parts.specs.Steps.{headSize, firstAt, pastLong, pastName, listAt}
 
 -- what is made, and the place after what it is made of

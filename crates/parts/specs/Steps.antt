@@ -10,12 +10,12 @@ use Rattle.meaning.specs.FirstByte.{arrayByte, mapByte, classOf}
 use Rattle.leaves.specs.Leb.{lebAt}
 use Rattle.leaves.specs.declared.Leb.{Leb}
 use Rattle.leaves.specs.declared.Leb.the-variants.{Number, Fault}
-use Rattle.reader.specs.First.{firstSaid}
-use Rattle.reader.specs.Walk.{named, shaped, sizeAt}
-use Rattle.reader.specs.declared.first.Kind.{Kind}
-use Rattle.reader.specs.declared.first.Kind.the-variants.{Array, Map, Record, Function, Symbol, Variable}
-use Rattle.reader.specs.declared.first.First.{First}
-use Rattle.reader.specs.declared.first.First.the-variants.{Unassigned, Short, Long}
+use Rattle.payloads.specs.First.{firstSaid}
+use Rattle.payloads.specs.Payload.{named, shaped, sizeAt}
+use Rattle.payloads.specs.declared.first.Kind.{Kind}
+use Rattle.payloads.specs.declared.first.Kind.the-variants.{Array, Map, Record, Function, Symbol, Variable}
+use Rattle.payloads.specs.declared.first.First.{First}
+use Rattle.payloads.specs.declared.first.First.the-variants.{Unassigned, Short, Long}
 use Rattle.parts.specs.declared.Listing.{Listing}
 use Rattle.parts.specs.declared.FoundChild.{FoundChild}
 use Rattle.parts.specs.declared.FoundChild.the-variants as child

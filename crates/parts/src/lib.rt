@@ -5,10 +5,10 @@ pub mod put;
 use leaves::Leb;
 use leaves::refusals::NO_SUCH_PART;
 use reader::Judgement;
-use reader::first::First;
-use reader::first::Kind;
-use reader::first::PACKED;
-use reader::first::PACKED_MAPS;
+use payloads::first::First;
+use payloads::first::Kind;
+use payloads::first::PACKED;
+use payloads::first::PACKED_MAPS;
 ghost use mathlib.Core.Path.{_≡_};
 ghost use Prim.Native.Nat.{_≤_, max};
 ghost use lib.ListN.{length};
@@ -61,7 +61,7 @@ pub fn first_at(s: &[u8], at: usize) -> First
     if s.len() <= at {
         return First::Unassigned;
     }
-    reader::first::first_of(s[at])
+    payloads::first::first_of(s[at])
 }
 
 // The place after the shape at a place, by its head.
@@ -98,7 +98,7 @@ pub fn past_name(s: &[u8], at: usize, kind: Kind) -> usize
     ensures is { λ r. ⌜ r ≡ pastName (now (s .entry)) at kind ⌝ }
     ensures inside { λ r. ⌜ (at ≤ r) × (r ≤ max at (length (now (s .entry)))) ⌝ }
 {
-    if reader::payload::named_kind(kind) {
+    if payloads::named_kind(kind) {
         past_text(s, at)
     } else {
         at
@@ -110,7 +110,7 @@ fn past_item(s: &[u8], at: usize, kind: Kind) -> usize
     ensures { λ r. ⌜ r ≡ pastItem (now (s .entry)) at kind ⌝ }
 {
     let start = past_name(s, at, kind);
-    if reader::payload::shaped_kind(kind) {
+    if payloads::shaped_kind(kind) {
         past_shape(s, start)
     } else {
         start
@@ -211,7 +211,7 @@ fn child_in(s: &[u8], kind: Kind, k: u64, list: Listing) -> FoundChild
 {
     let from = list.from;
     let count = list.count;
-    if reader::payload::shaped_kind(kind) {
+    if payloads::shaped_kind(kind) {
         if k < count as u64 {
             child_from(s, past_name(s, past_items(s, kind, k, from), kind))
         } else {
@@ -234,7 +234,7 @@ fn name_in(s: &[u8], kind: Kind, k: u64, list: Listing) -> FoundName
 {
     let from = list.from;
     let count = list.count;
-    if reader::payload::named_kind(kind) {
+    if payloads::named_kind(kind) {
         if k < count as u64 {
             name_from(s, past_items(s, kind, k, from))
         } else {

@@ -14,8 +14,9 @@ use Rattle.meaning.specs.Encode.{asPrim}
 use Rattle.meaning.specs.Reading.{Reading, got, some?, hasShort, finish}
 use Rattle.meaning.proofs.Rules.{both}
 use Rattle.meaning.proofs.Window.{window-none, window-some}
-use Rattle.reader.specs.declared.first.Kind.{Kind}
-use Rattle.reader.specs.Walk.{Out, Fold, after, closing, madeOf, shortFormOf, primitiveAt}
+use Rattle.payloads.specs.declared.first.Kind.{Kind}
+use Rattle.payloads.specs.Payload.{shortFormOf, primitiveAt}
+use Rattle.reader.specs.Walk.{Out, Fold, after, closing, madeOf}
 use Rattle.reader.proofs.Folding.{fold}
 use Rattle.reader.proofs.Told.{Told, tree, refused}
 

@@ -12,10 +12,11 @@ use Rattle.meaning.specs.Encode.{asPrim}
 use Rattle.meaning.specs.Reading.{some?}
 use Rattle.meaning.proofs.Rules.{facts, rule}
 use Rattle.meaning.proofs.Sound.{code-prim}
-use Rattle.reader.specs.declared.first.First.{First}
-use Rattle.reader.specs.declared.first.First.the-variants.{Unassigned, Short, Long}
-use Rattle.reader.specs.First.{kindSaid, firstSaid}
-use Rattle.reader.specs.Walk.{Fold, primitive}
+use Rattle.payloads.specs.declared.first.First.{First}
+use Rattle.payloads.specs.declared.first.First.the-variants.{Unassigned, Short, Long}
+use Rattle.payloads.specs.First.{kindSaid, firstSaid}
+use Rattle.payloads.specs.Payload.{primitive}
+use Rattle.reader.specs.Walk.{Fold}
 use Rattle.reader.proofs.Folding.{arrayBy, mapBy, fold}
 
 -- a byte, what the reader says of it and its class: what is made of a shape of one byte, and whether the byte is a primitive

@@ -12,8 +12,8 @@ use Rattle.meaning.specs.Shape.{Primitive, Sort, shape, fields, parameters, Tre
 use Rattle.meaning.specs.FirstByte.{code, shortBlanks, primByte, arrayByte, mapByte}
 use Rattle.meaning.specs.Encode.{asPrim}
 use Rattle.meaning.proofs.Complete.{as-prim}
-use Rattle.reader.specs.declared.first.Kind.{Kind}
-use Rattle.reader.specs.declared.first.Kind.the-variants.{Array, Map, Record, Function, Symbol}
+use Rattle.payloads.specs.declared.first.Kind.{Kind}
+use Rattle.payloads.specs.declared.first.Kind.the-variants.{Array, Map, Record, Function, Symbol}
 use Rattle.reader.specs.Walk.{Fold, depths}
 
 -- of a shape something is made, and a list goes on from what was made before it

@@ -9,8 +9,9 @@ use lib.Seq.{slice}
 use Rattle.meaning.specs.Shape.{Tree, shape, fields, parameters, noFields, field, noParameters, parameter}
 use Rattle.meaning.specs.Reading.{Reading, readTexts, readFields, readParameters}
 use Rattle.meaning.proofs.Window.{window-none}
-use Rattle.reader.specs.declared.first.Kind.the-variants.{Record, Function, Symbol}
-use Rattle.reader.specs.Walk.{Fold, Walker, labelAt, walkItems}
+use Rattle.payloads.specs.declared.first.Kind.the-variants.{Record, Function, Symbol}
+use Rattle.payloads.specs.Payload.{labelAt}
+use Rattle.reader.specs.Walk.{Fold, Walker, walkItems}
 use Rattle.reader.proofs.Folding.{bare, textsBy, fold}
 use Rattle.reader.proofs.Told.{Told, tree, refused, after-text, after-tree, re-told, text-told}
 

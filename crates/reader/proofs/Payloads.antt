@@ -14,9 +14,10 @@ use Rattle.meaning.specs.Shape.{Primitive, Tree, shape, arrayOf, mapOf, recordO
 use Rattle.meaning.specs.FirstByte.{array, map}
 use Rattle.meaning.specs.Encode.{asPrim}
 use Rattle.meaning.specs.Reading.{Reading, got, next, some?, hasShort, readTexts, readFields, readParameters, readPayload}
-use Rattle.reader.specs.declared.first.Kind.{Kind}
-use Rattle.reader.specs.declared.first.Kind.the-variants.{Array, Map, Record, Function, Symbol}
-use Rattle.reader.specs.Walk.{Out, came, stopped, Fold, Walker, after, labelAt, walkItems, madeOf, shortFormOf, primitiveAt}
+use Rattle.payloads.specs.declared.first.Kind.{Kind}
+use Rattle.payloads.specs.declared.first.Kind.the-variants.{Array, Map, Record, Function, Symbol}
+use Rattle.payloads.specs.Payload.{labelAt, shortFormOf, primitiveAt}
+use Rattle.reader.specs.Walk.{Out, came, stopped, Fold, Walker, after, walkItems, madeOf}
 use Rattle.reader.proofs.Folding.{bare, arrayBy, mapBy, fold}
 use Rattle.reader.proofs.Told.{Told, tree, refused, after-tree, re-told}
 use Rattle.reader.proofs.Lists.{none-told, Fields, Parameters, Texts, texts-told, fields-told, parameters-told}

@@ -19,11 +19,12 @@ use Rattle.meaning.specs.Reading.{Reading, hasShort, finish, readBlank, readPay
 use Rattle.meaning.proofs.Rules.{facts, both}
 use Rattle.meaning.proofs.Window.{window-none, window-some, window-length, window-take, window-drop, window-place}
 use Rattle.leaves.proofs.Numbers.{leb-told}
-use Rattle.reader.specs.declared.first.Kind.{Kind}
-use Rattle.reader.specs.declared.first.Kind.the-variants.{Array, Map, Record, Function, Symbol, Variable}
-use Rattle.reader.specs.declared.payload.Opening.{Opening}
-use Rattle.reader.specs.First.{kindSaid}
-use Rattle.reader.specs.Walk.{Out, came, stopped, Fold, Walker, after, afterOpening, walkItems, closing, madeOf, listOf, countedAt, countedBy, openingAt, shortFormOf, primitiveAt, smallAt}
+use Rattle.payloads.specs.declared.first.Kind.{Kind}
+use Rattle.payloads.specs.declared.first.Kind.the-variants.{Array, Map, Record, Function, Symbol, Variable}
+use Rattle.payloads.specs.declared.Opening.{Opening}
+use Rattle.payloads.specs.First.{kindSaid}
+use Rattle.payloads.specs.Payload.{listOf, countedAt, countedBy, openingAt, shortFormOf, primitiveAt, smallAt}
+use Rattle.reader.specs.Walk.{Out, came, stopped, Fold, Walker, after, afterOpening, walkItems, closing, madeOf}
 use Rattle.reader.proofs.Folding.{fold}
 use Rattle.reader.proofs.Told.{Told, tree, refused, after-leb}
 use Rattle.reader.proofs.Ends.{Seen, closing-told}

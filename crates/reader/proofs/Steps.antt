@@ -19,12 +19,13 @@ use lib.ListN.{getD}
 use lib.Seq.{slice}
 use Rattle.meaning.specs.Refusals.{tooDeep}
 use Rattle.meaning.specs.FirstByte.{classOf}
-use Rattle.reader.specs.First.{firstSaid}
-use Rattle.reader.specs.declared.first.Kind.{Kind}
-use Rattle.reader.specs.declared.first.Kind.the-variants.{Array, Map, Record, Function, Symbol, Variable}
-use Rattle.reader.specs.declared.first.First.the-variants.{Long}
-use Rattle.reader.specs.declared.payload.Text.the-variants.{Whole, Bad}
-use Rattle.reader.specs.Walk.{came, stopped, Fold, Walker, labelAt, named, shaped, openingAt, afterOpening, after, closing, walkItems, byFirst, shapeWith, walkShape, madeOf, depths}
+use Rattle.payloads.specs.First.{firstSaid}
+use Rattle.payloads.specs.declared.first.Kind.{Kind}
+use Rattle.payloads.specs.declared.first.Kind.the-variants.{Array, Map, Record, Function, Symbol, Variable}
+use Rattle.payloads.specs.declared.first.First.the-variants.{Long}
+use Rattle.payloads.specs.declared.Text.the-variants.{Whole, Bad}
+use Rattle.payloads.specs.Payload.{labelAt, named, shaped, openingAt}
+use Rattle.reader.specs.Walk.{came, stopped, Fold, Walker, afterOpening, after, closing, walkItems, byFirst, shapeWith, walkShape, madeOf, depths}
 
 module _ {X A : Type 0} (F : Fold X A) where
   pub below : ℕ → Walker X

@@ -16,9 +16,10 @@ use Rattle.meaning.proofs.Window.{window-length, window-place, window-take, win
 use Rattle.leaves.specs.declared.Leb.{Leb}
 use Rattle.leaves.specs.declared.Leb.the-variants.{Number, Fault}
 use Rattle.leaves.proofs.Numbers.{ToldLeb, number, fault, leb-told}
-use Rattle.reader.specs.declared.payload.Text.{Text}
-use Rattle.reader.specs.declared.payload.Text.the-variants.{Whole, Bad}
-use Rattle.reader.specs.Walk.{Out, came, stopped, textFrom, textAt, afterText, after}
+use Rattle.payloads.specs.declared.Text.{Text}
+use Rattle.payloads.specs.declared.Text.the-variants.{Whole, Bad}
+use Rattle.payloads.specs.Payload.{textFrom, textAt}
+use Rattle.reader.specs.Walk.{Out, came, stopped, afterText, after}
 
 -- a text that came: its bytes are got, and the window after them; one that is bad is bad there too
 pub data ToldText (s : List ℕ) (e : ℕ) : Text → Reading (List ℕ) → Type 0 where

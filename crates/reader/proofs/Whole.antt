@@ -19,11 +19,12 @@ use Rattle.meaning.specs.Reading.{Reading, got, bad, next, readClass, noLevel, 
 use Rattle.meaning.proofs.Rules.{facts}
 use Rattle.meaning.proofs.Window.{window-none, window-some, window-all, place-some, bytes-by-index}
 use Rattle.meaning.proofs.Laws.{encode-reading, nothing-left}
-use Rattle.reader.specs.declared.first.First.{First}
+use Rattle.payloads.specs.declared.first.First.{First}
 use Rattle.reader.specs.declared.Judgement.{Judgement}
 use Rattle.reader.specs.declared.Judgement.the-variants.{Accepted, Refused}
 use Rattle.reader.specs.Said.{said}
-use Rattle.reader.specs.Walk.{Out, came, stopped, Fold, Walker, after, primitive, primitiveAt, byFirst, shapeWith, walkShape, walkAll, depths}
+use Rattle.payloads.specs.Payload.{primitive, primitiveAt}
+use Rattle.reader.specs.Walk.{Out, came, stopped, Fold, Walker, after, byFirst, shapeWith, walkShape, walkAll, depths}
 use Rattle.reader.proofs.Folding.{fold, fold-depth}
 use Rattle.reader.proofs.Told.{Told, tree, refused}
 use Rattle.reader.proofs.Ends.{Seen}

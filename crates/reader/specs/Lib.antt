@@ -1,3 +1,2 @@
-pub mod First
 pub mod Said
 pub mod Walk

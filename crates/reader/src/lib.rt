@@ -1,9 +1,4 @@
 // The reader of encoded shapes: judges any bytes, in place, by one walk from the left.
-pub mod first;
-pub mod payload;
-
-use first::First;
-use first::Kind;
 use leaves::limits::MAX_BYTES;
 use leaves::limits::MAX_LEVELS;
 use leaves::refusals::CUT_SHORT;
@@ -12,8 +7,10 @@ use leaves::refusals::LONG_FORM;
 use leaves::refusals::NOT_ASSIGNED;
 use leaves::refusals::SIZE_WRONG;
 use leaves::refusals::TOO_DEEP;
-use payload::Opening;
-use payload::Text;
+use payloads::Opening;
+use payloads::Text;
+use payloads::first::First;
+use payloads::first::Kind;
 ghost use mathlib.Core.Path.{_≡_};
 ghost use Prim.Native.Nat.{_≤_, _+_, max};
 ghost use lib.ListN.{length};
@@ -42,7 +39,7 @@ fn closing_at(s: &[u8], at: usize, stop: usize, kind: Kind, next: usize, depth: 
     ensures inside { λ r. ⌜ WalkedInside (depth + 1) r ⌝ }
 {
     if next == stop {
-        if payload::short_form_of(s, at + 3, stop, kind) {
+        if payloads::short_form_of(s, at + 3, stop, kind) {
             Walked::Refused {
                 number: LONG_FORM,
                 place: at,
@@ -79,7 +76,7 @@ fn head_at(s: &[u8], end: usize, at: usize, left: usize) -> Head
             place: at,
         };
     }
-    match first::first_of(s[at]) {
+    match payloads::first::first_of(s[at]) {
         First::Unassigned => Head::Stop {
             number: NOT_ASSIGNED,
             place: at,
@@ -113,7 +110,7 @@ fn shape(s: &[u8], end: usize, at: usize, left: usize, kind: Kind) -> Walked
     ensures is { λ r. ⌜ told r ≡ walkShape depths left (now (s .entry)) end at ⌝ }
     ensures inside { λ r. ⌜ WalkedInside left r ⌝ }
 {
-    match payload::opening_at(s, end, at, kind) {
+    match payloads::opening_at(s, end, at, kind) {
         Opening::Closed { number, place } => Walked::Refused { number, place },
         Opening::Items { stop, from, count } => {
             match items(s, stop, from, left - 1, kind, count) {
@@ -149,10 +146,10 @@ fn run_of(s: &[u8], end: usize, from: usize, left: usize, kind: Kind, count: usi
         due: count,
         deep: 0,
     };
-    if payload::named_kind(kind) {
+    if payloads::named_kind(kind) {
         return run;
     }
-    if payload::shaped_kind(kind) {
+    if payloads::shaped_kind(kind) {
         while 0 < run.due {
             match head_at(s, end, run.at, left) {
                 Head::One { depth } => {
@@ -181,10 +178,10 @@ fn items(s: &[u8], end: usize, from: usize, left: usize, kind: Kind, count: usiz
     let mut due = front.due;
     while 0 < due {
         due -= 1;
-        match payload::label_at(s, end, at, kind) {
+        match payloads::label_at(s, end, at, kind) {
             Text::Bad { number, place } => return Walked::Refused { number, place },
             Text::Whole { start: _, next } => {
-                if payload::shaped_kind(kind) {
+                if payloads::shaped_kind(kind) {
                     match head_at(s, end, next, left) {
                         Head::Stop { number, place } => return Walked::Refused { number, place },
                         Head::One { depth } => {

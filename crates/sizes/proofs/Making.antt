@@ -23,7 +23,7 @@ use Rattle.meaning.proofs.Complete.{as-prim}
 use Rattle.meaning.proofs.Laws.{by-reading}
 use Rattle.meaning.proofs.Plug.{fields-kept, parameters-kept}
 use Rattle.meaning.proofs.Window.{bytes-by-index}
-use Rattle.reader.specs.declared.first.Kind.the-variants.{Array, Map}
+use Rattle.payloads.specs.declared.first.Kind.the-variants.{Array, Map}
 use Rattle.parts.specs.Pass.{Came, passShape}
 use Rattle.parts.proofs.Passed.{gathered, Making, pass-whole}
 use Rattle.sizes.specs.declared.Size.{Size}

@@ -15,9 +15,9 @@ use lib.Seq.{length-slice}
 use Rattle.meaning.specs.Limits.{maxBytes, maxLevels}
 use Rattle.meaning.specs.Shape.{Shape}
 use Rattle.meaning.proofs.Rules.{rule}
-use Rattle.reader.specs.Walk.{shaped}
-use Rattle.reader.specs.declared.first.Kind.{Kind}
-use Rattle.reader.specs.declared.first.First.the-variants.{Long}
+use Rattle.payloads.specs.Payload.{shaped}
+use Rattle.payloads.specs.declared.first.Kind.{Kind}
+use Rattle.payloads.specs.declared.first.First.the-variants.{Long}
 use Rattle.parts.specs.declared.Listing.{Listing}
 use Rattle.parts.specs.Steps.{headSize, firstAt, pastName, listAt, ListingInside}
 use Rattle.parts.specs.Pass.{Came, came, passItems, passShape}

@@ -14,8 +14,8 @@ use Rattle.meaning.specs.FirstByte.{shortBlanks, primByte}
 use Rattle.meaning.specs.Encode.{encode, asPrim}
 use Rattle.meaning.specs.Reading.{Reading, got, bad}
 use Rattle.meaning.specs.Sheet.{plug}
-use Rattle.reader.specs.declared.first.Kind.{Kind}
-use Rattle.reader.specs.declared.first.Kind.the-variants.{Array, Map, Record, Function, Symbol, Variable}
+use Rattle.payloads.specs.declared.first.Kind.{Kind}
+use Rattle.payloads.specs.declared.first.Kind.the-variants.{Array, Map, Record, Function, Symbol, Variable}
 use Rattle.parts.specs.Steps.{headSize}
 use Rattle.parts.specs.Pass.{Came, came, Pass}
 use Rattle.sizes.specs.declared.Size.{Size}

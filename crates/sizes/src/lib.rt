@@ -2,11 +2,11 @@
 use leaves::limits::MAX_LEVELS;
 use parts::HEAD_SIZE;
 use parts::LONG_BLANK;
-use reader::first::First;
-use reader::first::Kind;
-use reader::first::PAST_PRIMITIVES;
-use reader::first::PRIMITIVES;
-use reader::first::SHORT_BLANKS;
+use payloads::first::First;
+use payloads::first::Kind;
+use payloads::first::PAST_PRIMITIVES;
+use payloads::first::PRIMITIVES;
+use payloads::first::SHORT_BLANKS;
 use sheets::Entry;
 ghost use mathlib.Core.Path.{_≡_};
 ghost use mathlib.Core.Bool.{false, _&&_};
@@ -15,8 +15,8 @@ ghost use lib.ListN.{length};
 ghost use Rattle.meaning.specs.Limits.{maxBytes, maxLevels};
 ghost use Rattle.meaning.specs.Shape.{blank};
 ghost use Rattle.meaning.specs.Reading.{reading};
-ghost use Rattle.reader.specs.declared.first.First.the-variants.{Long};
-ghost use Rattle.reader.specs.Walk.{shaped};
+ghost use Rattle.payloads.specs.declared.first.First.the-variants.{Long};
+ghost use Rattle.payloads.specs.Payload.{shaped};
 ghost use Rattle.parts.specs.Steps.{firstAt};
 ghost use Rattle.parts.specs.Pass.{came, passItems, passShape};
 ghost use Rattle.sheets.specs.Index.{Ready, blankIn};
@@ -193,7 +193,7 @@ fn plain_size(s: &[u8], sheet: &[u8], index: &[u16], at: usize, left: usize, kin
     ensures is { λ r. ⌜ sizedSaid r ≡ passShape (sizes (blankIn (now (sheet .entry)))) left (now (s .entry)) at ⌝ }
     ensures inside { λ r. ⌜ SizedInside left (now (s .entry)) at r ⌝ }
 {
-    if reader::payload::named_kind(kind) {
+    if payloads::named_kind(kind) {
         let next = parts::past_long(s, at);
         return Sized {
             next,
@@ -219,7 +219,7 @@ fn shape_size(s: &[u8], sheet: &[u8], index: &[u16], at: usize, left: usize, kin
     ensures is { λ r. ⌜ sizedSaid r ≡ passShape (sizes (blankIn (now (sheet .entry)))) left (now (s .entry)) at ⌝ }
     ensures inside { λ r. ⌜ SizedInside left (now (s .entry)) at r ⌝ }
 {
-    if reader::payload::shaped_kind(kind) {
+    if payloads::shaped_kind(kind) {
         if left == 0 {
             return nothing(at);
         }

@@ -18,9 +18,9 @@ use lib.Seq.{slice, slice-empty, take-length}
 use Rattle.meaning.specs.Numbers.{twoBytes}
 use Rattle.meaning.specs.Table.{arrayKind, mapKind}
 use Rattle.buffers.specs.Written.{written}
-use Rattle.reader.specs.Walk.{named, shaped}
-use Rattle.reader.specs.declared.first.Kind.{Kind}
-use Rattle.reader.specs.declared.first.Kind.the-variants.{Array, Map}
+use Rattle.payloads.specs.Payload.{named, shaped}
+use Rattle.payloads.specs.declared.first.Kind.{Kind}
+use Rattle.payloads.specs.declared.first.Kind.the-variants.{Array, Map}
 use Rattle.parts.specs.Steps.{pastName}
 use Rattle.parts.specs.Pass.{Passer, passItems}
 use Rattle.counts.specs.declared.Counts.{Counts}

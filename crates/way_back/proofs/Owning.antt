@@ -10,7 +10,7 @@ use Prim.Native.Nat.{ℕ, _+_, _-_, _≤_, _<_}
 use native.Mathlib.Omega.{arith}
 use lib.ListN.{length, take, drop, length-append}
 use lib.Seq.{slice, length-slice}
-use Rattle.reader.specs.declared.first.Kind.{Kind}
+use Rattle.payloads.specs.declared.first.Kind.{Kind}
 use Rattle.parts.specs.Steps.{pastName}
 use Rattle.parts.specs.Pass.{passItems}
 use Rattle.parts.proofs.Passing.{items-one}

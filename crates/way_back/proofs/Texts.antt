@@ -17,10 +17,10 @@ use lib.Seq.{slice}
 use borrow.Author.Tests.{le-leb}
 use Rattle.meaning.specs.Table.{symbolKind}
 use Rattle.leaves.proofs.Numbers.{steps, leb-steps}
-use Rattle.reader.specs.Walk.{named, shaped}
-use Rattle.reader.specs.declared.first.Kind.{Kind}
-use Rattle.reader.specs.declared.first.Kind.the-variants.{Symbol}
-use Rattle.reader.specs.declared.first.First.the-variants.{Long}
+use Rattle.payloads.specs.Payload.{named, shaped}
+use Rattle.payloads.specs.declared.first.Kind.{Kind}
+use Rattle.payloads.specs.declared.first.Kind.the-variants.{Symbol}
+use Rattle.payloads.specs.declared.first.First.the-variants.{Long}
 use Rattle.parts.specs.declared.Listing.{Listing}
 use Rattle.parts.specs.Steps.{headSize, firstAt, pastLong, pastName, listAt}
 use Rattle.parts.specs.Pass.{passItems, passShape}

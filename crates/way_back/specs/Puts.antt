@@ -6,8 +6,8 @@ use mathlib.Core.List.{List, [], _++_}
 use lib.ListN.{length}
 use Rattle.meaning.specs.Numbers.{twoBytes}
 use Rattle.buffers.specs.Written.{written}
-use Rattle.reader.specs.Walk.{named}
-use Rattle.reader.specs.declared.first.Kind.{Kind}
+use Rattle.payloads.specs.Payload.{named}
+use Rattle.payloads.specs.declared.first.Kind.{Kind}
 use Rattle.parts.specs.Pass.{Came, passItems}
 use Rattle.counts.specs.declared.Counts.{Counts}
 use Rattle.counts.specs.declared.Section.{Section}

@@ -18,12 +18,12 @@ use leaves::refusals::BUFFER_SHORT;
 use parts::HEAD_SIZE;
 use parts::LONG_BLANK;
 use reader::Judgement;
-use reader::first::First;
-use reader::first::Kind;
-use reader::first::PACKED;
-use reader::first::PACKED_MAPS;
-use reader::first::PRIMITIVES;
-use reader::first::SHORT_BLANKS;
+use payloads::first::First;
+use payloads::first::Kind;
+use payloads::first::PACKED;
+use payloads::first::PACKED_MAPS;
+use payloads::first::PRIMITIVES;
+use payloads::first::SHORT_BLANKS;
 use tables::ARRAY;
 use tables::FUNCTION;
 use tables::LINK_SIZE;
@@ -43,9 +43,9 @@ ghost use Rattle.meaning.specs.Limits.{maxLevels};
 ghost use Rattle.meaning.specs.Numbers.{twoBytes};
 ghost use Rattle.meaning.specs.Answers.{tableAnswer, bufferAfter};
 ghost use Rattle.buffers.specs.Said.{madeSaid};
-ghost use Rattle.reader.specs.declared.first.First.the-variants.{Long};
-ghost use Rattle.reader.specs.declared.first.Kind.the-variants.{Array, Map};
-ghost use Rattle.reader.specs.Walk.{shaped};
+ghost use Rattle.payloads.specs.declared.first.First.the-variants.{Long};
+ghost use Rattle.payloads.specs.declared.first.Kind.the-variants.{Array, Map};
+ghost use Rattle.payloads.specs.Payload.{shaped};
 ghost use Rattle.parts.specs.Steps.{firstAt};
 ghost use Rattle.parts.specs.Pass.{passItems, passShape};
 ghost use Rattle.counts.specs.Pieces.{none, plus, Few, textIn, kindNumber, nodeEntry, linkEntry, nameEntry, itemEntry, noItems, packedArray, packedMap, ownBytes, listPiece, shortPiece, symbolPiece, pieces, Linked, tableSize, sections};
@@ -97,8 +97,8 @@ fn put_link(kind: Kind, target: usize, k: usize, out: &mut [u8], to: usize) -> u
     requires { ⌜ (target < 65536) × (k < 65536) × Room (length (now out)) to (linkEntry kind target k) ⌝ }
     ensures { λ r. ⌜ Wrote (now (out .entry)) (now (out .exit)) to (linkEntry kind target k) r ⌝ }
 {
-    let shaped = reader::payload::shaped_kind(kind);
-    let named = reader::payload::named_kind(kind);
+    let shaped = payloads::shaped_kind(kind);
+    let named = payloads::named_kind(kind);
     put_two(out, to, number_if(shaped, target));
     put_two(out, to + 2, number_if(named, k));
     to + LINK_SIZE
@@ -109,7 +109,7 @@ fn put_name(kind: Kind, start: usize, size: usize, out: &mut [u8], to: usize) ->
     requires { ⌜ (start < 65536) × (size < 65536) × Room (length (now out)) to (nameEntry kind start size) ⌝ }
     ensures { λ r. ⌜ Wrote (now (out .entry)) (now (out .exit)) to (nameEntry kind start size) r ⌝ }
 {
-    if reader::payload::named_kind(kind) {
+    if payloads::named_kind(kind) {
         put_two(out, to, start);
         put_two(out, to + 2, size);
         return to + NAME_SIZE;
@@ -161,8 +161,8 @@ fn has_entries(section: Section, kind: Kind) -> bool
     match section {
         Section::Nodes => false,
         Section::Links => true,
-        Section::Names => reader::payload::named_kind(kind),
-        Section::Text => reader::payload::named_kind(kind),
+        Section::Names => payloads::named_kind(kind),
+        Section::Text => payloads::named_kind(kind),
     }
 }
 
@@ -324,7 +324,7 @@ fn put_plain(
     requires { ⌜ (at < length (now s)) × (length (now s) < 65536) × (firstAt (now s) at ≡ Long kind) × (shaped kind ≡ false) × Few (plus base (passShape pieces left (now s) at .made .counts)) × Room (length (now out)) to (passShape pieces left (now s) at .made .bytes section base) ⌝ }
     ensures { λ r. ⌜ Wrote (now (out .entry)) (now (out .exit)) to (passShape pieces left (now (s .entry)) at .made .bytes section base) r ⌝ }
 {
-    if reader::payload::named_kind(kind) {
+    if payloads::named_kind(kind) {
         let next = parts::past_long(s, at);
         return put_symbol(section, &s[at..next], base, out, to);
     }
@@ -385,7 +385,7 @@ fn put_at(
             }
         }
         First::Long { kind } => {
-            if reader::payload::shaped_kind(kind) {
+            if payloads::shaped_kind(kind) {
                 if left == 0 {
                     return Put {
                         next: at,

@@ -8,7 +8,7 @@ use native.Mathlib.Omega.{arith}
 use borrow.Author.Tests.{le-ltb, lt-ltb, ne-eqb}
 use Rattle.meaning.specs.FirstByte.{primByte}
 use Rattle.meaning.specs.Table.{Node, arrayKind, mapKind, recordKind, functionKind, symbolKind}
-use Rattle.reader.specs.declared.first.Kind.the-variants.{Record, Function, Symbol}
+use Rattle.payloads.specs.declared.first.Kind.the-variants.{Record, Function, Symbol}
 use Rattle.tables.specs.declared.Way.the-variants.{Bare, Named, Texts}
 use Rattle.writer.specs.declared.Form.the-variants as form
 use Rattle.writer.specs.Bytes.{arrayForm, mapForm, formOf}

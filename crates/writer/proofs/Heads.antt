@@ -12,7 +12,7 @@ use Rattle.meaning.specs.Table.{Node}
 use Rattle.meaning.specs.TableReading.{nodeSize}
 use Rattle.buffers.specs.Written.{written}
 use Rattle.buffers.proofs.Written.{written-after, written-before}
-use Rattle.reader.specs.declared.first.Kind.{Kind}
+use Rattle.payloads.specs.declared.first.Kind.{Kind}
 use Rattle.parts.specs.Heads.{headBytes}
 use Rattle.tables.specs.declared.Way.{Way}
 use Rattle.tables.specs.Places.{nodeAt}

@@ -15,8 +15,8 @@ use borrow.Author.Tests.{eqb-true}
 use Rattle.meaning.specs.Table.{Node, Link, arrayKind, mapKind, recordKind, functionKind, symbolKind}
 use Rattle.meaning.specs.TableReading.{nodeSize}
 use Rattle.meaning.proofs.Rules.{rule}
-use Rattle.reader.specs.declared.first.Kind.{Kind}
-use Rattle.reader.specs.declared.first.Kind.the-variants.{Array, Map, Record, Function, Symbol}
+use Rattle.payloads.specs.declared.first.Kind.{Kind}
+use Rattle.payloads.specs.declared.first.Kind.the-variants.{Array, Map, Record, Function, Symbol}
 use Rattle.tables.specs.declared.Way.{Way}
 use Rattle.tables.specs.declared.Way.the-variants.{Bare, Named, Texts}
 use Rattle.tables.specs.Places.{textPlace, nodeAt, linkAt, targetKind, goodBy, goodAt}

@@ -20,7 +20,7 @@ use Rattle.meaning.specs.Table.{Node, Table, arrayKind, mapKind, recordKind, fu
 use Rattle.meaning.specs.TableReading.{nodeSize}
 use Rattle.meaning.proofs.Rules.{both}
 use Rattle.meaning.proofs.Sound.{code-prim}
-use Rattle.reader.specs.declared.first.Kind.the-variants.{Record, Function, Symbol}
+use Rattle.payloads.specs.declared.first.Kind.the-variants.{Record, Function, Symbol}
 use Rattle.tables.specs.declared.Way.the-variants.{Bare, Named, Texts}
 use Rattle.tables.specs.Places.{textPlace, nodeAt, linkAt, targetKind, goodBy, goodFrom, goodAt}
 use Rattle.tables.proofs.Whole.{Fits, node-view, link-view, text-view}

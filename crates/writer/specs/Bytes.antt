@@ -12,8 +12,8 @@ use Rattle.meaning.specs.FirstByte.{primByte, arrayByte, mapByte}
 use Rattle.meaning.specs.Encode.{blankBytes, encode}
 use Rattle.meaning.specs.Table.{Node, Link, Table, arrayKind, mapKind, recordKind, functionKind, symbolKind, shapeOf}
 use Rattle.meaning.specs.TableReading.{nodeSize}
-use Rattle.reader.specs.declared.first.Kind.{Kind}
-use Rattle.reader.specs.declared.first.Kind.the-variants.{Array, Map, Record, Function, Symbol}
+use Rattle.payloads.specs.declared.first.Kind.{Kind}
+use Rattle.payloads.specs.declared.first.Kind.the-variants.{Array, Map, Record, Function, Symbol}
 use Rattle.parts.specs.Heads.{headBytes}
 use Rattle.tables.specs.declared.Way.{Way}
 use Rattle.tables.specs.declared.Way.the-variants.{Bare, Named, Texts}

@@ -13,10 +13,10 @@ use borrow.Author.Tests.{lt-ltb, le-ltb}
 use Rattle.meaning.specs.Shape.{Shape}
 use Rattle.buffers.specs.Written.{written}
 use Rattle.buffers.proofs.Written.{written-after, written-before}
-use Rattle.reader.specs.Walk.{shaped}
-use Rattle.reader.specs.declared.first.Kind.{Kind}
-use Rattle.reader.specs.declared.first.Kind.the-variants.{Array, Map, Record, Function, Symbol, Variable}
-use Rattle.reader.specs.declared.first.First.the-variants.{Long}
+use Rattle.payloads.specs.Payload.{shaped}
+use Rattle.payloads.specs.declared.first.Kind.{Kind}
+use Rattle.payloads.specs.declared.first.Kind.the-variants.{Array, Map, Record, Function, Symbol, Variable}
+use Rattle.payloads.specs.declared.first.First.the-variants.{Long}
 use Rattle.parts.specs.Heads.{headBytes}
 use Rattle.parts.specs.Steps.{firstAt, listAt}
 use Rattle.parts.specs.declared.Listing.{Listing}

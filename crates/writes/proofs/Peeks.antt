@@ -23,10 +23,10 @@ use Rattle.meaning.specs.Encode.{asPrim, encode}
 use Rattle.meaning.proofs.Rules.{rule}
 use Rattle.meaning.proofs.Complete.{code-small}
 use Rattle.meaning.proofs.Heads.{prim-by}
-use Rattle.reader.specs.Walk.{named, shaped, sizeAt}
-use Rattle.reader.specs.declared.first.Kind.{Kind}
-use Rattle.reader.specs.declared.first.Kind.the-variants.{Array, Map, Record, Function, Symbol, Variable}
-use Rattle.reader.specs.declared.first.First.the-variants.{Unassigned, Short, Long}
+use Rattle.payloads.specs.Payload.{named, shaped, sizeAt}
+use Rattle.payloads.specs.declared.first.Kind.{Kind}
+use Rattle.payloads.specs.declared.first.Kind.the-variants.{Array, Map, Record, Function, Symbol, Variable}
+use Rattle.payloads.specs.declared.first.First.the-variants.{Unassigned, Short, Long}
 use Rattle.parts.specs.Steps.{headSize, firstAt, pastLong, pastName, listAt}
 use Rattle.parts.specs.declared.Listing.{Listing}
 use Rattle.parts.specs.Pass.{Came, came, Passer, longBlank, passItems, passList, passShape}

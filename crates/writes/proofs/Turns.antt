@@ -12,7 +12,7 @@ use lib.Seq.{slice, length-slice}
 use Rattle.meaning.specs.Shape.{Shape}
 use Rattle.buffers.specs.Written.{written}
 use Rattle.buffers.proofs.Written.{written-after}
-use Rattle.reader.specs.declared.first.Kind.{Kind}
+use Rattle.payloads.specs.declared.first.Kind.{Kind}
 use Rattle.parts.specs.Steps.{pastName}
 use Rattle.parts.specs.Pass.{came, Passer, passItems}
 use Rattle.parts.proofs.Passing.{items-one}

@@ -14,8 +14,8 @@ use Rattle.meaning.specs.Encode.{encode}
 use Rattle.meaning.specs.Reading.{Reading, got, bad}
 use Rattle.meaning.specs.Sheet.{plug}
 use Rattle.buffers.specs.Written.{written}
-use Rattle.reader.specs.declared.first.Kind.{Kind}
-use Rattle.reader.specs.declared.first.Kind.the-variants.{Array, Map, Record, Function, Symbol, Variable}
+use Rattle.payloads.specs.declared.first.Kind.{Kind}
+use Rattle.payloads.specs.declared.first.Kind.the-variants.{Array, Map, Record, Function, Symbol, Variable}
 use Rattle.parts.specs.Heads.{headBytes}
 use Rattle.parts.specs.Pass.{Came, Pass, passItems, passShape}
 use Rattle.writes.specs.declared.Places.{Places}

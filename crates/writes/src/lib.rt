@@ -7,13 +7,13 @@ use parts::HEAD_SIZE;
 use parts::LONG_BLANK;
 use parts::put::put_blank;
 use parts::put::put_head;
-use reader::first::First;
-use reader::first::Kind;
-use reader::first::PACKED;
-use reader::first::PACKED_MAPS;
-use reader::first::PAST_PRIMITIVES;
-use reader::first::PRIMITIVES;
-use reader::first::SHORT_BLANKS;
+use payloads::first::First;
+use payloads::first::Kind;
+use payloads::first::PACKED;
+use payloads::first::PACKED_MAPS;
+use payloads::first::PAST_PRIMITIVES;
+use payloads::first::PRIMITIVES;
+use payloads::first::SHORT_BLANKS;
 use sheets::Entry;
 ghost use mathlib.Core.Path.{_≡_};
 ghost use mathlib.Core.Bool.{false};
@@ -24,8 +24,8 @@ ghost use Rattle.meaning.specs.Limits.{maxLevels};
 ghost use Rattle.meaning.specs.Encode.{encode};
 ghost use Rattle.meaning.specs.Reading.{reading};
 ghost use Rattle.buffers.specs.Written.{written};
-ghost use Rattle.reader.specs.declared.first.First.the-variants.{Long};
-ghost use Rattle.reader.specs.Walk.{shaped};
+ghost use Rattle.payloads.specs.declared.first.First.the-variants.{Long};
+ghost use Rattle.payloads.specs.Payload.{shaped};
 ghost use Rattle.parts.specs.Steps.{firstAt};
 ghost use Rattle.parts.specs.Pass.{passItems, passShape};
 ghost use Rattle.sheets.specs.Index.{Ready, blankIn};
@@ -136,13 +136,13 @@ fn prim_at(s: &[u8], sheet: &[u8], index: &[u16], at: usize) -> Peek
             }
         }
         First::Long { kind } => {
-            if reader::payload::shaped_kind(kind) {
+            if payloads::shaped_kind(kind) {
                 return Peek {
                     next: at,
                     code: NO_PRIMITIVE,
                 };
             }
-            if reader::payload::named_kind(kind) {
+            if payloads::named_kind(kind) {
                 return Peek {
                     next: at,
                     code: NO_PRIMITIVE,
@@ -235,7 +235,7 @@ fn put_plain(
     requires { ⌜ Ready (now sheet) (now index) × (at < length (now s)) × (firstAt (now s) at ≡ Long kind) × (shaped kind ≡ false) × Fits (length (now out)) to (passShape (writes (blankIn (now sheet))) left (now s) at) ⌝ }
     ensures { λ r. ⌜ Wrote (now (out .entry)) (now (out .exit)) to r (passShape (writes (blankIn (now (sheet .entry)))) left (now (s .entry)) at) ⌝ }
 {
-    if reader::payload::named_kind(kind) {
+    if payloads::named_kind(kind) {
         let next = parts::past_long(s, at);
         put_part(out, to, s, at, next);
         return Places {
@@ -267,7 +267,7 @@ fn put_shape(
     requires { ⌜ Ready (now sheet) (now index) × (at < length (now s)) × (left ≤ maxLevels) × (firstAt (now s) at ≡ Long kind) × Fits (length (now out)) to (passShape (writes (blankIn (now sheet))) left (now s) at) ⌝ }
     ensures { λ r. ⌜ Wrote (now (out .entry)) (now (out .exit)) to r (passShape (writes (blankIn (now (sheet .entry)))) left (now (s .entry)) at) ⌝ }
 {
-    if reader::payload::shaped_kind(kind) {
+    if payloads::shaped_kind(kind) {
         if left == 0 {
             return Places { next: at, to };
         }

@@ -21,7 +21,7 @@ use Rattle.counts.proofs.+count_at+count_items.Lts-count_items as count
 use Rattle.parts.proofs.first_at.Reads as first-at-reads
 use Rattle.parts.proofs.list_at.Reads as list-at-reads
 use Rattle.parts.proofs.past_name.Reads as past-name-reads
-use Rattle.reader.proofs.payload.shaped_kind.Reads as shaped-kind-reads
+use Rattle.payloads.proofs.shaped_kind.Reads as shaped-kind-reads
 use Rattle.counts.proofs.count_plain.Reads as count-plain-reads
 use Rattle.counts.proofs.no_counts.Reads as no-counts-reads
 use Rattle.counts.proofs.own_counts.Reads as own-counts-reads

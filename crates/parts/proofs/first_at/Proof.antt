@@ -7,7 +7,7 @@ use lib.ListN.{length, getD}
 use borrow.Author.Needs.{needs}
 use Rattle.meaning.specs.FirstByte.{Class, classOf, whole, packed, long, unassigned}
 use Rattle.meaning.proofs.Rules.{tests}
-use Rattle.reader.specs.First.{firstSaid}
+use Rattle.payloads.specs.First.{firstSaid}
 use Rattle.parts.specs.Steps.{firstAt, FirstInside}
 use Rattle.parts.proofs.first_at.Statement.{statement}
 use Rattle.parts.proofs.first_at.Tie as tie

@@ -18,10 +18,10 @@ use Rattle.reader.proofs.shape.Kinds as shape-kinds
 use Rattle.reader.proofs.+items+shape.Lts-shape as shape-lts
 use Rattle.reader.proofs.closing_at.Reads as closing-at-reads
 use Rattle.reader.proofs.head_at.Reads as head-at-reads
-use Rattle.reader.proofs.payload.label_at.Reads as label-at-reads
+use Rattle.payloads.proofs.label_at.Reads as label-at-reads
 use Rattle.reader.proofs.larger.Reads as larger-reads
-use Rattle.reader.proofs.payload.opening_at.Reads as opening-at-reads
-use Rattle.reader.proofs.payload.shaped_kind.Reads as shaped-kind-reads
+use Rattle.payloads.proofs.opening_at.Reads as opening-at-reads
+use Rattle.payloads.proofs.shaped_kind.Reads as shaped-kind-reads
 use Rattle.reader.proofs.run_of.Reads as run-of-reads
 use Rattle.reader.proofs.+items+shape.{statement}
 use Rattle.reader.proofs.+items+shape.Tie.{close}

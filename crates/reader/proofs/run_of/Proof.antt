@@ -6,8 +6,9 @@ use native.Mathlib.Omega.{arith}
 use Prim.Native.Nat.{_≤_}
 use mathlib.Core.Path.{_≡_, refl, sym, _∙_}
 use mathlib.Core.Bool.{true, false}
-use Rattle.reader.specs.declared.first.Kind.{Kind}
-use Rattle.reader.specs.Walk.{named, shaped, walkItems, walkShape, depths}
+use Rattle.payloads.specs.declared.first.Kind.{Kind}
+use Rattle.payloads.specs.Payload.{named, shaped}
+use Rattle.reader.specs.Walk.{walkItems, walkShape, depths}
 use Rattle.reader.proofs.Steps.{items-bare}
 use Rattle.reader.proofs.run_of.Statement.{statement}
 use Rattle.reader.proofs.run_of.Tie as tie

@@ -23,7 +23,7 @@ use Rattle.sizes.proofs.+items_size+shape_size.Lts-shape_size as shape-
 use Rattle.parts.proofs.first_at.Reads as first-at-reads
 use Rattle.parts.proofs.list_at.Reads as list-at-reads
 use Rattle.parts.proofs.past_name.Reads as past-name-reads
-use Rattle.reader.proofs.payload.shaped_kind.Reads as shaped-kind-reads
+use Rattle.payloads.proofs.shaped_kind.Reads as shaped-kind-reads
 use Rattle.sizes.proofs.list_size.Reads as list-size-reads
 use Rattle.sizes.proofs.nothing.Reads as nothing-reads
 use Rattle.sizes.proofs.plain_size.Reads as plain-size-reads

@@ -31,7 +31,7 @@ use Rattle.parts.proofs.first_at.Reads as first-at-reads
 use Rattle.parts.proofs.list_at.Reads as list-at-reads
 use Rattle.parts.proofs.past_name.Reads as past-name-reads
 use Rattle.parts.proofs.put.put_head.Reads as put-head-reads
-use Rattle.reader.proofs.payload.shaped_kind.Reads as shaped-kind-reads
+use Rattle.payloads.proofs.shaped_kind.Reads as shaped-kind-reads
 use Rattle.writes.proofs.packed_at.Reads as packed-at-reads
 use Rattle.writes.proofs.put_plain.Reads as put-plain-reads
 use Rattle.writes.proofs.put_short.Reads as put-short-reads

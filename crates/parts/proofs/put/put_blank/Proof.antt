@@ -10,7 +10,7 @@ use Rattle.meaning.specs.Numbers.{twoBytes}
 use Rattle.meaning.specs.FirstByte.{shortBlanks}
 use Rattle.meaning.specs.Encode.{blankBytes}
 use Rattle.buffers.proofs.Written.{written-after}
-use Rattle.reader.specs.declared.first.Kind.the-variants.{Variable}
+use Rattle.payloads.specs.declared.first.Kind.the-variants.{Variable}
 use Rattle.parts.specs.Heads.{headBytes}
 use Rattle.parts.proofs.put.put_blank.Statement.{statement}
 use Rattle.parts.proofs.put.put_blank.Tie as tie

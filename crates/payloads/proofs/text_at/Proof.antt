@@ -1,13 +1,13 @@
--- `reader::payload::text_at` meets its contract.
+-- `payloads::text_at` meets its contract.
 -- Assumes nothing.
 use borrow.Author.Needs.{needs}
 use native.Mathlib.Omega.{arith}
 use Prim.Native.Nat.{_+_}
 use Rattle.meaning.proofs.Rules.{tests}
 use Rattle.leaves.proofs.Text.{utf8-to}
-use Rattle.reader.specs.Walk.{textAt, textFrom}
-use Rattle.reader.proofs.payload.text_at.Statement.{statement}
-use Rattle.reader.proofs.payload.text_at.Tie as tie
+use Rattle.payloads.specs.Payload.{textAt, textFrom}
+use Rattle.payloads.proofs.text_at.Statement.{statement}
+use Rattle.payloads.proofs.text_at.Tie as tie
 
 sub-if1 : tie.Need-sub-if1
 sub-if1 c = let h = rw (c .before .value .given .1) at (c .before .before .before .leb128 .ensures .1) in omega arith

@@ -1,10 +1,10 @@
--- `reader::payload::counted` meets its contract.
+-- `payloads::counted` meets its contract.
 -- Assumes nothing.
 use borrow.Author.Needs.{needs}
-use Rattle.reader.specs.Walk.{countedAt, countedBy}
+use Rattle.payloads.specs.Payload.{countedAt, countedBy}
 use native.Mathlib.Omega.{arith}
-use Rattle.reader.proofs.payload.counted.Statement.{statement}
-use Rattle.reader.proofs.payload.counted.Tie as tie
+use Rattle.payloads.proofs.counted.Statement.{statement}
+use Rattle.payloads.proofs.counted.Tie as tie
 
 add-t10 : tie.Need-add-t10
 add-t10 c = let h = rw (c .before .value .given .1) at (c .before .before .before .leb128 .ensures .1) in omega arith

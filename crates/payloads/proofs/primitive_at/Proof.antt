@@ -1,10 +1,10 @@
--- `reader::payload::primitive_at` meets its contract.
+-- `payloads::primitive_at` meets its contract.
 -- Assumes nothing.
 use borrow.Author.Needs.{needs}
-use Rattle.reader.specs.Walk.{primitiveAt}
+use Rattle.payloads.specs.Payload.{primitiveAt}
 use Rattle.meaning.proofs.Rules.{tests}
-use Rattle.reader.proofs.payload.primitive_at.Statement.{statement}
-use Rattle.reader.proofs.payload.primitive_at.Tie as tie
+use Rattle.payloads.proofs.primitive_at.Statement.{statement}
+use Rattle.payloads.proofs.primitive_at.Tie as tie
 
 pub primitive-at-spec : {M : Type 1} → statement M
 unfolding primitiveAt

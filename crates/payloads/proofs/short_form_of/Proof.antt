@@ -1,9 +1,9 @@
--- `reader::payload::short_form_of` meets its contract.
+-- `payloads::short_form_of` meets its contract.
 -- Assumes nothing.
 use borrow.Author.Needs.{needs}
-use Rattle.reader.specs.Walk.{shortFormOf}
-use Rattle.reader.proofs.payload.short_form_of.Statement.{statement}
-use Rattle.reader.proofs.payload.short_form_of.Tie as tie
+use Rattle.payloads.specs.Payload.{shortFormOf}
+use Rattle.payloads.proofs.short_form_of.Statement.{statement}
+use Rattle.payloads.proofs.short_form_of.Tie as tie
 
 returns : tie.Need-returns
 unfolding shortFormOf

@@ -1,8 +1,10 @@
 // The parts of a payload: its texts, its list of items, and whether it stands in its short form's place.
-use crate::first::Kind;
-use crate::first::PAST_PRIMITIVES;
-use crate::first::PRIMITIVES;
-use crate::first::SHORT_BLANKS;
+pub mod first;
+
+use first::Kind;
+use first::PAST_PRIMITIVES;
+use first::PRIMITIVES;
+use first::SHORT_BLANKS;
 use leaves::Leb;
 use leaves::refusals::CUT_SHORT;
 use leaves::refusals::NOT_UTF8;
@@ -10,7 +12,7 @@ use leaves::refusals::SIZE_WRONG;
 ghost use mathlib.Core.Path.{_≡_};
 ghost use Prim.Native.Nat.{_≤_, _<_, _+_};
 ghost use lib.ListN.{length};
-ghost use Rattle.reader.specs.Walk.{textAt, labelAt, named, shaped, countedAt, listOf, openingAt, OpeningInside, primitiveAt, smallAt, shortFormOf};
+ghost use Rattle.payloads.specs.Payload.{textAt, labelAt, named, shaped, countedAt, listOf, openingAt, OpeningInside, primitiveAt, smallAt, shortFormOf};
 
 // A text with its length before it.
 pub enum Text {

@@ -1,10 +1,10 @@
--- `reader::payload::list_of` meets its contract.
+-- `payloads::list_of` meets its contract.
 -- Assumes nothing.
 use borrow.Author.Needs.{needs}
-use Rattle.reader.specs.Walk.{listOf}
+use Rattle.payloads.specs.Payload.{listOf}
 use Rattle.meaning.proofs.Rules.{tests}
-use Rattle.reader.proofs.payload.list_of.Statement.{statement}
-use Rattle.reader.proofs.payload.list_of.Tie as tie
+use Rattle.payloads.proofs.list_of.Statement.{statement}
+use Rattle.payloads.proofs.list_of.Tie as tie
 
 returns : tie.Need-returns
 unfolding listOf

@@ -1,10 +1,10 @@
--- `reader::payload::small_at` meets its contract.
+-- `payloads::small_at` meets its contract.
 -- Assumes nothing.
 use borrow.Author.Needs.{needs}
-use Rattle.reader.specs.Walk.{smallAt}
+use Rattle.payloads.specs.Payload.{smallAt}
 use Rattle.meaning.proofs.Rules.{tests}
-use Rattle.reader.proofs.payload.small_at.Statement.{statement}
-use Rattle.reader.proofs.payload.small_at.Tie as tie
+use Rattle.payloads.proofs.small_at.Statement.{statement}
+use Rattle.payloads.proofs.small_at.Tie as tie
 
 pub small-at-spec : {M : Type 1} → statement M
 unfolding smallAt

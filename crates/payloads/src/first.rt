@@ -1,7 +1,7 @@
 // What a first byte says (01-scope.md, "First bytes").
 ghost use mathlib.Core.Path.{_≡_};
 ghost use Rattle.meaning.specs.FirstByte.{classOf};
-ghost use Rattle.reader.specs.First.{firstSaid};
+ghost use Rattle.payloads.specs.First.{firstSaid};
 
 // The code's one place for first bytes.
 pub const SHORT_BLANKS: u8 = 32;

@@ -1,12 +1,12 @@
--- `reader::payload::opening_at` meets its contract.
+-- `payloads::opening_at` meets its contract.
 -- Assumes nothing.
-use Rattle.reader.specs.Walk.{openingAt}
+use Rattle.payloads.specs.Payload.{openingAt}
 use Rattle.meaning.proofs.Rules.{tests}
-use Rattle.reader.proofs.Inside.{opening-wider}
+use Rattle.payloads.proofs.Inside.{opening-wider}
 use borrow.Author.Needs.{needs}
 use Prim.Native.Nat.{_+_}
-use Rattle.reader.proofs.payload.opening_at.Statement.{statement}
-use Rattle.reader.proofs.payload.opening_at.Tie as tie
+use Rattle.payloads.proofs.opening_at.Statement.{statement}
+use Rattle.payloads.proofs.opening_at.Tie as tie
 
 returns-2 : tie.Need-returns-2
 unfolding openingAt

@@ -1,10 +1,10 @@
--- The reader's own words for what a first byte says.
+-- The code's own words for what a first byte says.
 use Rattle.meaning.specs.FirstByte.{Class, whole, packed, long, unassigned}
 use Rattle.meaning.specs.FirstByte as Meant
-use Rattle.reader.specs.declared.first.Kind.{Kind}
-use Rattle.reader.specs.declared.first.Kind.the-variants.{Array, Map, Record, Function, Symbol, Variable}
-use Rattle.reader.specs.declared.first.First.{First}
-use Rattle.reader.specs.declared.first.First.the-variants.{Unassigned, Short, Long}
+use Rattle.payloads.specs.declared.first.Kind.{Kind}
+use Rattle.payloads.specs.declared.first.Kind.the-variants.{Array, Map, Record, Function, Symbol, Variable}
+use Rattle.payloads.specs.declared.first.First.{First}
+use Rattle.payloads.specs.declared.first.First.the-variants.{Unassigned, Short, Long}
 
 abbrev pub kindSaid : Meant.Kind → Kind
 kindSaid Meant.array = Array

@@ -1,9 +1,9 @@
--- `reader::payload::label_at` meets its contract.
+-- `payloads::label_at` meets its contract.
 -- Assumes nothing.
 use borrow.Author.Needs.{needs}
-use Rattle.reader.specs.Walk.{labelAt}
-use Rattle.reader.proofs.payload.label_at.Statement.{statement}
-use Rattle.reader.proofs.payload.label_at.Tie as tie
+use Rattle.payloads.specs.Payload.{labelAt}
+use Rattle.payloads.proofs.label_at.Statement.{statement}
+use Rattle.payloads.proofs.label_at.Tie as tie
 
 returns : tie.Need-returns
 unfolding labelAt

@@ -1,4 +1,4 @@
--- `reader::first::first_of` meets its contract: at each `return` the tests that led there say which rule of `classOf` holds.
+-- `payloads::first::first_of` meets its contract: at each `return` the tests that led there say which rule of `classOf` holds.
 -- Assumes nothing.
 use borrow.Author.Tests.{le-ltb, lt-ltb, ne-eqb}
 use mathlib.Core.Path.{_≡_, refl}
@@ -8,10 +8,10 @@ use Rattle.meaning.specs.FirstByte.{classOf}
 use Rattle.meaning.proofs.Rules.{tests, facts, rule, both}
 use lib.Dec.{ltb}
 use Rattle.meaning.specs.Rules.{_⇒_∣_}
-use Rattle.reader.specs.First.{firstSaid}
-use Rattle.reader.specs.declared.first.First.the-variants.{Unassigned, Short}
-use Rattle.reader.proofs.first.first_of.Statement.{statement}
-use Rattle.reader.proofs.first.first_of.Tie as tie
+use Rattle.payloads.specs.First.{firstSaid}
+use Rattle.payloads.specs.declared.first.First.the-variants.{Unassigned, Short}
+use Rattle.payloads.proofs.first.first_of.Statement.{statement}
+use Rattle.payloads.proofs.first.first_of.Tie as tie
 
 -- from 96 on, a byte packs the children of an Array or of a Map, or says nothing
 high-class : (b : ℕ) → 96 ≤ b → firstSaid (classOf b) ≡ (ltb b 126 ⇒ Short 2 ∣ λ _. Unassigned)
