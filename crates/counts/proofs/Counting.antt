@@ -24,10 +24,10 @@ use Rattle.payloads.specs.Payload.{shaped}
 use Rattle.payloads.specs.declared.first.First.the-variants.{Long}
 use Rattle.payloads.specs.declared.first.Kind.{Kind}
 use Rattle.payloads.specs.declared.first.Kind.the-variants.{Symbol}
-use Rattle.parts.specs.declared.Listing.{Listing}
-use Rattle.parts.specs.Steps.{headSize, firstAt, pastName, listAt, ListingInside}
-use Rattle.parts.specs.Pass.{Came, came, Passer, passItems, passShape}
-use Rattle.parts.proofs.Passing.{list-items, items-one, items-none}
+use Rattle.steps.specs.declared.Listing.{Listing}
+use Rattle.steps.specs.Steps.{headSize, firstAt, pastName, listAt, ListingInside}
+use Rattle.steps.specs.Pass.{Came, came, Passer, passItems, passShape}
+use Rattle.steps.proofs.Passing.{list-items, items-one, items-none}
 use Rattle.counts.specs.declared.Counts.{Counts}
 use Rattle.counts.specs.declared.Counted.{Counted}
 use Rattle.counts.specs.declared.Tally.{Tally}

@@ -12,8 +12,8 @@ use native.Mathlib.Omega.{arith}
 use lib.ListN.{length, length-append}
 use lib.Seq.{slice}
 use Rattle.payloads.specs.declared.first.Kind.{Kind}
-use Rattle.parts.specs.Steps.{pastName}
-use Rattle.parts.specs.Pass.{Passer, passItems}
+use Rattle.steps.specs.Steps.{pastName}
+use Rattle.steps.specs.Pass.{Passer, passItems}
 use Rattle.counts.specs.declared.Counts.{Counts}
 use Rattle.counts.specs.declared.Section.{Section}
 use Rattle.counts.specs.Pieces.{Few, Piece, Gathered, textIn, plus, itemEntry, noItems, withItem, pieces}

@@ -14,9 +14,9 @@ use Rattle.payloads.specs.declared.first.Kind.{Kind}
 use Rattle.payloads.specs.declared.first.Kind.the-variants.{Array, Map, Record, Function, Symbol, Variable}
 use Rattle.payloads.specs.declared.first.First.{First}
 use Rattle.payloads.specs.declared.first.First.the-variants.{Unassigned, Short, Long}
-use Rattle.parts.specs.Steps.{firstAt, listAt, pastName}
-use Rattle.parts.specs.declared.Listing.{Listing}
-use Rattle.parts.specs.Pass.{Came, came, Passer, passItems, passList, passLong, passFirst, passShape}
+use Rattle.steps.specs.Steps.{firstAt, listAt, pastName}
+use Rattle.steps.specs.declared.Listing.{Listing}
+use Rattle.steps.specs.Pass.{Came, came, Passer, passItems, passList, passLong, passFirst, passShape}
 use Rattle.counts.specs.Pieces.{Piece, Gathered, nothing, noItems, listPiece, shortPiece, gatherTexts, textsOf, symbolPiece, pieces, Linked}
 
 -- A list's node adds a link for each item, and no more names.

@@ -16,9 +16,9 @@ use Rattle.meaning.specs.Parts as Parts
 use Rattle.meaning.proofs.Sound.{by-class}
 use Rattle.meaning.proofs.Complete.{code-small, leb-pos, texts-le}
 use Rattle.payloads.specs.declared.first.Kind.the-variants.{Array, Map, Record, Function, Symbol}
-use Rattle.parts.specs.Steps.{listAt}
-use Rattle.parts.proofs.Places.{Stands, stands-length, stands-after, leb-at, of-lone, past-name}
-use Rattle.parts.proofs.Passed.{stands-slice, gathered, Making}
+use Rattle.steps.specs.Steps.{listAt}
+use Rattle.steps.proofs.Places.{Stands, stands-length, stands-after, leb-at, of-lone, past-name}
+use Rattle.steps.proofs.Passed.{stands-slice, gathered, Making}
 use Rattle.counts.specs.Pieces.{Gathered, nothing, single, noItems, withItem, listPiece, packedArray, packedMap, shortPiece, gatherTexts, symbolPiece, pieces}
 use Rattle.counts.proofs.OfShapes.{withTexts, pieceOf}
 use Rattle.counts.proofs.Shorts.{short-blank, short-prim, short-array, short-map}

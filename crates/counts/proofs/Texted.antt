@@ -11,7 +11,7 @@ use lib.ListN.{length}
 use lib.Seq.{drop-nil, drop-append-seam}
 use Rattle.meaning.specs.Shape.{Text}
 use Rattle.meaning.specs.Encode.{textBytes}
-use Rattle.parts.proofs.Places.{leb-at}
+use Rattle.steps.proofs.Places.{leb-at}
 use Rattle.counts.specs.Pieces.{textFrom, textIn}
 
 -- The text in the bytes of a text is that text.

@@ -3,7 +3,7 @@ use Prim.Native.Nat.{ℕ, _≤_, _<_}
 use mathlib.Core.Path.{_≡_}
 use mathlib.Core.List.{List}
 use lib.ListN.{length}
-use Rattle.parts.specs.Pass.{Came}
+use Rattle.steps.specs.Pass.{Came}
 use Rattle.counts.specs.declared.Counted.{Counted}
 use Rattle.counts.specs.declared.Tally.{Tally}
 use Rattle.counts.specs.Pieces.{Few, Piece, Gathered}

@@ -15,8 +15,8 @@ use Rattle.leaves.specs.declared.Leb.the-variants.{Number, Fault}
 use Rattle.payloads.specs.Payload.{named, shaped}
 use Rattle.payloads.specs.declared.first.Kind.{Kind}
 use Rattle.payloads.specs.declared.first.Kind.the-variants.{Array, Map, Record, Function, Symbol, Variable}
-use Rattle.parts.specs.Steps.{headSize, pastName, listAt}
-use Rattle.parts.specs.Pass.{came, Pass, Passer, passShape}
+use Rattle.steps.specs.Steps.{headSize, pastName, listAt}
+use Rattle.steps.specs.Pass.{came, Pass, Passer, passShape}
 use Rattle.tables.specs.Places.{nodeBytes}
 use Rattle.counts.specs.declared.Counts.{Counts}
 use Rattle.counts.specs.declared.Section.{Section}

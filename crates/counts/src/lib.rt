@@ -1,7 +1,7 @@
 // How many nodes, links, names and bytes of text the table of a shape has, found by one pass over the accepted bytes.
 use leaves::Leb;
-use parts::HEAD_SIZE;
-use parts::LONG_BLANK;
+use steps::HEAD_SIZE;
+use steps::LONG_BLANK;
 use payloads::first::First;
 use payloads::first::Kind;
 use payloads::first::PACKED;
@@ -13,8 +13,8 @@ ghost use lib.ListN.{length};
 ghost use Rattle.meaning.specs.Limits.{maxLevels};
 ghost use Rattle.payloads.specs.declared.first.First.the-variants.{Long};
 ghost use Rattle.payloads.specs.Payload.{shaped};
-ghost use Rattle.parts.specs.Steps.{firstAt};
-ghost use Rattle.parts.specs.Pass.{passItems, passShape};
+ghost use Rattle.steps.specs.Steps.{firstAt};
+ghost use Rattle.steps.specs.Pass.{passItems, passShape};
 ghost use Rattle.counts.specs.Pieces.{many, none, plus, Few, textFrom, textIn, noItems, ownCounts, shortPiece, symbolPiece, pieces, inner};
 ghost use Rattle.counts.specs.Counts.{CountedIs, TallyIs, FewItems};
 
@@ -141,14 +141,14 @@ fn count_symbol(w: &[u8]) -> Counts
     requires { ⌜ (length (now w) < 65536) ⌝ }
     ensures { λ r. ⌜ r ≡ symbolPiece (now (w .entry)) .counts ⌝ }
 {
-    let list = parts::list_at(w, HEAD_SIZE, Kind::Symbol);
+    let list = steps::list_at(w, HEAD_SIZE, Kind::Symbol);
     let count = list.count;
     let mut at = list.from;
     let mut text = 0;
     let mut due = count;
     while 0 < due {
         due -= 1;
-        let start = parts::past_name(w, at, Kind::Symbol);
+        let start = steps::past_name(w, at, Kind::Symbol);
         text += text_size(&w[at..start]);
         at = start;
     }
@@ -161,7 +161,7 @@ pub fn count_plain(s: &[u8], at: usize, left: usize, kind: Kind) -> Counted
     ensures { λ r. ⌜ CountedIs (now (s .entry)) r (passShape pieces left (now (s .entry)) at) ⌝ }
 {
     if payloads::named_kind(kind) {
-        let next = parts::past_long(s, at);
+        let next = steps::past_long(s, at);
         return Counted {
             next,
             counts: count_symbol(&s[at..next]),
@@ -184,7 +184,7 @@ pub fn count_at(s: &[u8], at: usize, left: usize) -> Counted
     requires { ⌜ (at ≤ length (now s)) × (length (now s) < 65536) × (left ≤ maxLevels) × Few (passShape pieces left (now s) at .made .counts) ⌝ }
     ensures { λ r. ⌜ CountedIs (now (s .entry)) r (passShape pieces left (now (s .entry)) at) ⌝ }
 {
-    match parts::first_at(s, at) {
+    match steps::first_at(s, at) {
         First::Unassigned => Counted {
             next: at,
             counts: no_counts(),
@@ -207,7 +207,7 @@ pub fn count_at(s: &[u8], at: usize, left: usize) -> Counted
                         counts: no_counts(),
                     };
                 }
-                let list = parts::list_at(s, at + HEAD_SIZE, kind);
+                let list = steps::list_at(s, at + HEAD_SIZE, kind);
                 let all = count_items(s, list.from, left - 1, kind, list.count);
                 return Counted {
                     next: all.next,
@@ -230,7 +230,7 @@ fn count_items(s: &[u8], from: usize, left: usize, kind: Kind, count: usize) -> 
     let mut due = count;
     while 0 < due {
         due -= 1;
-        let start = parts::past_name(s, at, kind);
+        let start = steps::past_name(s, at, kind);
         text += text_size(&s[at..start]);
         let part = count_at(s, start, left);
         counts = plus(counts, part.counts);

@@ -16,7 +16,7 @@ use Rattle.reader.specs.Said.{said}
 use Rattle.parts.specs.declared.FoundChild.the-variants as child
 use Rattle.parts.specs.declared.FoundName.the-variants as name
 use Rattle.parts.specs.Said.{childSaid, nameSaid}
-use Rattle.parts.specs.Steps.{childSteps, nameSteps}
+use Rattle.parts.specs.Found.{childSteps, nameSteps}
 use Rattle.parts.proofs.Whole.{child-steps, name-steps}
 
 module _ (s : List ℕ) (bytes : (i : ℕ) → getD s i 0 < 256) (k : ℕ) where

@@ -1,9 +1,4 @@
-pub mod Turns
-pub mod Places
 pub mod Listed
 pub mod Lists
 pub mod Whole
 pub mod Judged
-pub mod Passed
-pub mod Passing
-pub mod Inside

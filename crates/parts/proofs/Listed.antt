@@ -24,8 +24,9 @@ use Rattle.payloads.specs.Payload as Payload
 use Rattle.parts.specs.declared.FoundChild.the-variants as child
 use Rattle.parts.specs.declared.FoundName.the-variants as name
 use Rattle.parts.specs.Said.{childSaid, nameSaid, toldChild}
-use Rattle.parts.specs.Steps.{pastName, pastItems, childFrom, nameFrom, listing, listAt, childIn, nameIn}
-use Rattle.parts.proofs.Places.{Stands, stands-length, stands-after, past-shape, leb-at, Of, of-bare, of-named, of-lone, AllOf, past-name, past-items}
+use Rattle.steps.specs.Steps.{pastName, pastItems, listing, listAt}
+use Rattle.parts.specs.Found.{childFrom, nameFrom, childIn, nameIn}
+use Rattle.steps.proofs.Places.{Stands, stands-length, stands-after, past-shape, leb-at, Of, of-bare, of-named, of-lone, AllOf, past-name, past-items}
 
 -- a shape whose payload is a list of items of a kind; the list is found wherever the encoding stands
 pub record Listed (t : Shape) (kind : first.Kind) : Type 0 where

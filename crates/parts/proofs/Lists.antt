@@ -1,6 +1,5 @@
 -- Each shape that has a list in its payload is listed: wherever its encoding stands, its list is found there.
 --     array-listed, map-listed, record-listed, function-listed, symbol-listed
---     fields-all, parameters-all     the items of a list are of its kind
 -- Assumes nothing.
 use mathlib.Core.Path.{_≡_, refl, sym}
 use mathlib.Core.Bool.{false}
@@ -18,8 +17,9 @@ use Rattle.meaning.proofs.Lists.{fields-count, parameters-count, texts-count, f
 use Rattle.meaning.proofs.Complete.{count-le, texts-le}
 use Rattle.leaves.specs.Leb.{lebAt}
 use Rattle.payloads.specs.declared.first.Kind.the-variants.{Array, Map, Record, Function, Symbol}
-use Rattle.parts.specs.Steps.{listing, countedBy, listAt}
-use Rattle.parts.proofs.Places.{Stands, stands-length, stands-after, leb-at, of-bare, of-named, of-lone, AllOf}
+use Rattle.steps.specs.Steps.{listing, countedBy, listAt}
+use Rattle.steps.proofs.Places.{Stands, stands-length, stands-after, leb-at, of-bare}
+use Rattle.steps.proofs.Items.{fields-all, parameters-all, texts-all}
 use Rattle.parts.proofs.Listed.{Listed}
 
 -- a count is read, and the list starts after it
@@ -29,22 +29,6 @@ counted k n more m y h e s at x g =
     let l = stands-length s at _ g in
     let z : at + (3 + length (leb128 n)) ≡ at + 3 + length (leb128 n) = omega arith in
     rw (leb-at s (at + 3) n (y ++ x) h (omega arith) (rw append-assoc at (stands-after s at (Meant.kindByte k ∷ twoBytes (length (leb128 n ++ y))) ((leb128 n ++ y) ++ x) g)), e, z)
-
--- the items of a list are of its kind, and no name is longer than the whole
-pub fields-all : (f : Tree fields) → length (encode f) < 16384 → AllOf Record (fieldItems f)
-unfolding fieldItems encode
-fields-all noFields h = tt
-fields-all (field n s f) h = let k = simp length-append at h in (of-named n s refl refl (omega arith), fields-all f (omega arith))
-
-pub parameters-all : (p : Tree parameters) (r : Shape) → AllOf Function (parameterItems p ++ (bare r ∷ []))
-unfolding parameterItems
-parameters-all noParameters r = (of-bare r refl refl, tt)
-parameters-all (parameter s p) r = (of-bare s refl refl, parameters-all p r)
-
-texts-all : (ts : List Text) → length (textsBytes ts) < 16384 → AllOf Symbol (textItems ts)
-unfolding textItems textsBytes
-texts-all [] h = tt
-texts-all (t ∷ ts) h = let k = simp length-append at h in (of-lone t refl refl (omega arith), texts-all ts (omega arith))
 
 -- each shape that has a list in its payload
 pub array-listed : (s : Shape) → hasShort (arrayOf s) ≡ false → Listed (arrayOf s) Array

@@ -22,11 +22,12 @@ use Rattle.meaning.specs.Parts.{items, children, names, childOf}
 use Rattle.meaning.proofs.Complete.{class-prim, class-array, class-map, class-blank, class-kind, code-small}
 use Rattle.payloads.specs.First.{kindSaid}
 use Rattle.payloads.specs.declared.first.Kind.the-variants.{Array, Map, Record, Function, Symbol, Variable}
-use Rattle.parts.specs.declared.Listing.{Listing}
+use Rattle.steps.specs.declared.Listing.{Listing}
 use Rattle.parts.specs.declared.FoundChild.the-variants as child
 use Rattle.parts.specs.declared.FoundName.the-variants as name
 use Rattle.parts.specs.Said.{childSaid, nameSaid}
-use Rattle.parts.specs.Steps.{headSize, firstAt, listAt, childIn, nameIn, packedChild, childBy, nameWith, childSteps, nameSteps}
+use Rattle.steps.specs.Steps.{headSize, firstAt, listAt}
+use Rattle.parts.specs.Found.{childIn, nameIn, packedChild, childBy, nameWith, childSteps, nameSteps}
 use Rattle.parts.proofs.Listed.{child-listed, name-listed}
 use Rattle.parts.proofs.Lists.{array-listed, map-listed, record-listed, function-listed, symbol-listed}
 

@@ -1,4 +1,2 @@
 pub mod Said
-pub mod Steps
-pub mod Pass
-pub mod Heads
+pub mod Found

@@ -24,8 +24,8 @@ use Rattle.meaning.proofs.Laws.{by-reading}
 use Rattle.meaning.proofs.Plug.{fields-kept, parameters-kept}
 use Rattle.meaning.proofs.Window.{bytes-by-index}
 use Rattle.payloads.specs.declared.first.Kind.the-variants.{Array, Map}
-use Rattle.parts.specs.Pass.{Came, passShape}
-use Rattle.parts.proofs.Passed.{gathered, Making, pass-whole}
+use Rattle.steps.specs.Pass.{Came, passShape}
+use Rattle.steps.proofs.Passed.{gathered, Making, pass-whole}
 use Rattle.sizes.specs.declared.Size.{Size}
 use Rattle.sizes.specs.declared.Sum.{Sum}
 use Rattle.sizes.specs.Sizes.{size, sum, sizeOf, shortSize, sumItem, listSize, sizes, MeasureIs}

@@ -18,15 +18,15 @@ use Rattle.meaning.proofs.Rules.{rule}
 use Rattle.payloads.specs.Payload.{shaped}
 use Rattle.payloads.specs.declared.first.Kind.{Kind}
 use Rattle.payloads.specs.declared.first.First.the-variants.{Long}
-use Rattle.parts.specs.declared.Listing.{Listing}
-use Rattle.parts.specs.Steps.{headSize, firstAt, pastName, listAt, ListingInside}
-use Rattle.parts.specs.Pass.{Came, came, passItems, passShape}
+use Rattle.steps.specs.declared.Listing.{Listing}
+use Rattle.steps.specs.Steps.{headSize, firstAt, pastName, listAt, ListingInside}
+use Rattle.steps.specs.Pass.{Came, came, passItems, passShape}
 use Rattle.sizes.specs.declared.Size.{Size}
 use Rattle.sizes.specs.declared.Sized.{Sized}
 use Rattle.sizes.specs.declared.Sum.{Sum}
 use Rattle.sizes.specs.declared.Summed.{Summed}
 use Rattle.sizes.specs.Sizes.{size, sumItem, packs, listSize, sizes, sizedSaid, summedSaid, SizeInside, SizedInside, SummedInside}
-use Rattle.parts.proofs.Passing.{list-items, items-one}
+use Rattle.steps.proofs.Passing.{list-items, items-one}
 
 -- the items that are due, passed over from here on, end as the whole list does; the place is inside the input, and the sum inside what its bytes
 -- can become

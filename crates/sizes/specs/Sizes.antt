@@ -16,8 +16,8 @@ use Rattle.meaning.specs.Reading.{Reading, got, bad}
 use Rattle.meaning.specs.Sheet.{plug}
 use Rattle.payloads.specs.declared.first.Kind.{Kind}
 use Rattle.payloads.specs.declared.first.Kind.the-variants.{Array, Map, Record, Function, Symbol, Variable}
-use Rattle.parts.specs.Steps.{headSize}
-use Rattle.parts.specs.Pass.{Came, came, Pass}
+use Rattle.steps.specs.Steps.{headSize}
+use Rattle.steps.specs.Pass.{Came, came, Pass}
 use Rattle.sizes.specs.declared.Size.{Size}
 use Rattle.sizes.specs.declared.Sized.{Sized}
 use Rattle.sizes.specs.declared.Sum.{Sum}

@@ -1,7 +1,7 @@
 // What a shape measures once its blanks are filled (01-scope.md, "Sheets"): found by one pass over the accepted bytes, before anything is written.
 use leaves::limits::MAX_LEVELS;
-use parts::HEAD_SIZE;
-use parts::LONG_BLANK;
+use steps::HEAD_SIZE;
+use steps::LONG_BLANK;
 use payloads::first::First;
 use payloads::first::Kind;
 use payloads::first::PAST_PRIMITIVES;
@@ -17,8 +17,8 @@ ghost use Rattle.meaning.specs.Shape.{blank};
 ghost use Rattle.meaning.specs.Reading.{reading};
 ghost use Rattle.payloads.specs.declared.first.First.the-variants.{Long};
 ghost use Rattle.payloads.specs.Payload.{shaped};
-ghost use Rattle.parts.specs.Steps.{firstAt};
-ghost use Rattle.parts.specs.Pass.{came, passItems, passShape};
+ghost use Rattle.steps.specs.Steps.{firstAt};
+ghost use Rattle.steps.specs.Pass.{came, passItems, passShape};
 ghost use Rattle.sheets.specs.Index.{Ready, blankIn};
 ghost use Rattle.sizes.specs.Sizes.{size, sizeOf, primIn, SizeInside, shortSize, sumItem, packs, listSize, sizes, sizedSaid, SizedInside, summedSaid, SummedInside, MeasureIs};
 
@@ -194,7 +194,7 @@ fn plain_size(s: &[u8], sheet: &[u8], index: &[u16], at: usize, left: usize, kin
     ensures inside { λ r. ⌜ SizedInside left (now (s .entry)) at r ⌝ }
 {
     if payloads::named_kind(kind) {
-        let next = parts::past_long(s, at);
+        let next = steps::past_long(s, at);
         return Sized {
             next,
             size: Size {
@@ -226,7 +226,7 @@ fn shape_size(s: &[u8], sheet: &[u8], index: &[u16], at: usize, left: usize, kin
         if s.len() - at < HEAD_SIZE {
             return nothing(at);
         }
-        let list = parts::list_at(s, at + HEAD_SIZE, kind);
+        let list = steps::list_at(s, at + HEAD_SIZE, kind);
         let from = list.from;
         let all = items_size(s, sheet, index, from, left - 1, kind, list.count);
         return Sized {
@@ -260,9 +260,9 @@ fn items_size(
     let mut due = count;
     while 0 < due {
         due -= 1;
-        let start = parts::past_name(s, at, kind);
+        let start = steps::past_name(s, at, kind);
         let name = start - at;
-        match parts::first_at(s, start) {
+        match steps::first_at(s, start) {
             First::Unassigned => {
                 at = start;
                 sum = with_item(sum, name, nothing(start).size);
@@ -286,7 +286,7 @@ pub fn measure(template: &[u8], sheet: &[u8], index: &[u16]) -> Size
     requires { ⌜ Ready (now sheet) (now index) × (length (now template) ≤ maxBytes) ⌝ }
     ensures { λ r. ⌜ MeasureIs (blankIn (now (sheet .entry))) (reading (now (template .entry))) r ⌝ }
 {
-    match parts::first_at(template, 0) {
+    match steps::first_at(template, 0) {
         First::Unassigned => nothing(0).size,
         First::Short { levels } => short_size(sheet, index, template[0], levels),
         First::Long { kind } => shape_size(template, sheet, index, 0, MAX_LEVELS, kind).size,

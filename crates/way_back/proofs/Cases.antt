@@ -23,8 +23,8 @@ use Rattle.meaning.proofs.Laws.{by-reading}
 use Rattle.meaning.proofs.TableAnswers.{table-answers, table-short}
 use Rattle.reader.specs.declared.Judgement.the-variants.{Accepted, Refused}
 use Rattle.reader.specs.Said.{said}
-use Rattle.parts.specs.Pass.{came, passShape}
-use Rattle.parts.proofs.Passed.{pass-whole}
+use Rattle.steps.specs.Pass.{came, passShape}
+use Rattle.steps.proofs.Passed.{pass-whole}
 use Rattle.counts.specs.declared.Counts.{Counts}
 use Rattle.counts.specs.Pieces.{Few, pieces, tableSize, sections}
 use Rattle.counts.proofs.OfShapes.{pieceOf}

@@ -21,8 +21,8 @@ use Rattle.buffers.specs.Written.{written}
 use Rattle.payloads.specs.Payload.{named, shaped}
 use Rattle.payloads.specs.declared.first.Kind.{Kind}
 use Rattle.payloads.specs.declared.first.Kind.the-variants.{Array, Map}
-use Rattle.parts.specs.Steps.{pastName}
-use Rattle.parts.specs.Pass.{Passer, passItems}
+use Rattle.steps.specs.Steps.{pastName}
+use Rattle.steps.specs.Pass.{Passer, passItems}
 use Rattle.counts.specs.declared.Counts.{Counts}
 use Rattle.counts.specs.declared.Section.{Section}
 use Rattle.counts.specs.declared.Section.the-variants.{Nodes, Links, Names, Text}

@@ -11,9 +11,9 @@ use native.Mathlib.Omega.{arith}
 use lib.ListN.{length, take, drop, length-append}
 use lib.Seq.{slice, length-slice}
 use Rattle.payloads.specs.declared.first.Kind.{Kind}
-use Rattle.parts.specs.Steps.{pastName}
-use Rattle.parts.specs.Pass.{passItems}
-use Rattle.parts.proofs.Passing.{items-one}
+use Rattle.steps.specs.Steps.{pastName}
+use Rattle.steps.specs.Pass.{passItems}
+use Rattle.steps.proofs.Passing.{items-one}
 use Rattle.counts.specs.declared.Counts.{Counts}
 use Rattle.counts.specs.declared.Counted.{Counted}
 use Rattle.counts.specs.declared.Section.{Section}

@@ -17,10 +17,10 @@ use native.Mathlib.Omega.{arith}
 use lib.ListN.{length, length-append}
 use lib.Seq.{slice}
 use Rattle.payloads.specs.declared.first.Kind.{Kind}
-use Rattle.parts.specs.Steps.{pastName}
-use Rattle.parts.specs.declared.Listing.{Listing}
-use Rattle.parts.specs.Pass.{Came, came, Passer, passItems, passShape}
-use Rattle.parts.proofs.Passing.{items-one, items-none}
+use Rattle.steps.specs.Steps.{pastName}
+use Rattle.steps.specs.declared.Listing.{Listing}
+use Rattle.steps.specs.Pass.{Came, came, Passer, passItems, passShape}
+use Rattle.steps.proofs.Passing.{items-one, items-none}
 use Rattle.counts.specs.declared.Counts.{Counts}
 use Rattle.counts.specs.declared.Section.{Section}
 use Rattle.counts.specs.Pieces.{plus, Few, textIn, Piece, Gathered, nothing, noItems, withItem, ownCounts, ownBytes, pieces, Linked}

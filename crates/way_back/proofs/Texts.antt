@@ -21,10 +21,10 @@ use Rattle.payloads.specs.Payload.{named, shaped}
 use Rattle.payloads.specs.declared.first.Kind.{Kind}
 use Rattle.payloads.specs.declared.first.Kind.the-variants.{Symbol}
 use Rattle.payloads.specs.declared.first.First.the-variants.{Long}
-use Rattle.parts.specs.declared.Listing.{Listing}
-use Rattle.parts.specs.Steps.{headSize, firstAt, pastLong, pastName, listAt}
-use Rattle.parts.specs.Pass.{passItems, passShape}
-use Rattle.parts.proofs.Passing.{shape-symbol}
+use Rattle.steps.specs.declared.Listing.{Listing}
+use Rattle.steps.specs.Steps.{headSize, firstAt, pastLong, pastName, listAt}
+use Rattle.steps.specs.Pass.{passItems, passShape}
+use Rattle.steps.proofs.Passing.{shape-symbol}
 use Rattle.counts.specs.declared.Counts.{Counts}
 use Rattle.counts.specs.declared.Section.{Section}
 use Rattle.counts.specs.Pieces.{none, plus, Few, nodeEntry, nothing, Gathered, noItems, withItem, ownBytes, listPiece, gatherTexts, symbolPiece, pieces, inner}

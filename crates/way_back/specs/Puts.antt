@@ -8,7 +8,7 @@ use Rattle.meaning.specs.Numbers.{twoBytes}
 use Rattle.buffers.specs.Written.{written}
 use Rattle.payloads.specs.Payload.{named}
 use Rattle.payloads.specs.declared.first.Kind.{Kind}
-use Rattle.parts.specs.Pass.{Came, passItems}
+use Rattle.steps.specs.Pass.{Came, passItems}
 use Rattle.counts.specs.declared.Counts.{Counts}
 use Rattle.counts.specs.declared.Section.{Section}
 use Rattle.counts.specs.declared.Section.the-variants.{Nodes, Links, Names, Text}

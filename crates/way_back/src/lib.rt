@@ -15,8 +15,8 @@ use counts::short_counts;
 use leaves::COUNT_SIZE;
 use leaves::limits::MAX_LEVELS;
 use leaves::refusals::BUFFER_SHORT;
-use parts::HEAD_SIZE;
-use parts::LONG_BLANK;
+use steps::HEAD_SIZE;
+use steps::LONG_BLANK;
 use reader::Judgement;
 use payloads::first::First;
 use payloads::first::Kind;
@@ -46,8 +46,8 @@ ghost use Rattle.buffers.specs.Said.{madeSaid};
 ghost use Rattle.payloads.specs.declared.first.First.the-variants.{Long};
 ghost use Rattle.payloads.specs.declared.first.Kind.the-variants.{Array, Map};
 ghost use Rattle.payloads.specs.Payload.{shaped};
-ghost use Rattle.parts.specs.Steps.{firstAt};
-ghost use Rattle.parts.specs.Pass.{passItems, passShape};
+ghost use Rattle.steps.specs.Steps.{firstAt};
+ghost use Rattle.steps.specs.Pass.{passItems, passShape};
 ghost use Rattle.counts.specs.Pieces.{none, plus, Few, textIn, kindNumber, nodeEntry, linkEntry, nameEntry, itemEntry, noItems, packedArray, packedMap, ownBytes, listPiece, shortPiece, symbolPiece, pieces, Linked, tableSize, sections};
 ghost use Rattle.way_back.specs.Puts.{hasEntries, bareEntry, FewAfter, FewOwn, itemsAt, Wrote, PutIs, PutItemsIs, Room};
 
@@ -193,7 +193,7 @@ fn put_own(
     let mut due = count;
     while 0 < due {
         due -= 1;
-        let start = parts::past_name(s, at, kind);
+        let start = steps::past_name(s, at, kind);
         let part = count_inner(s, start, left, kind);
         nodes += part.counts.nodes;
         let w = &s[at..start];
@@ -295,7 +295,7 @@ fn put_symbol(section: Section, w: &[u8], base: Counts, out: &mut [u8], to: usiz
     if w.len() < HEAD_SIZE {
         return put_node(section, SYMBOL, base.links, 0, out, to);
     }
-    let list = parts::list_at(w, HEAD_SIZE, Kind::Symbol);
+    let list = steps::list_at(w, HEAD_SIZE, Kind::Symbol);
     put_list(
         section,
         w,
@@ -325,7 +325,7 @@ fn put_plain(
     ensures { λ r. ⌜ Wrote (now (out .entry)) (now (out .exit)) to (passShape pieces left (now (s .entry)) at .made .bytes section base) r ⌝ }
 {
     if payloads::named_kind(kind) {
-        let next = parts::past_long(s, at);
+        let next = steps::past_long(s, at);
         return put_symbol(section, &s[at..next], base, out, to);
     }
     if s.len() - at < LONG_BLANK {
@@ -369,7 +369,7 @@ fn put_at(
     requires { ⌜ (at ≤ length (now s)) × (length (now s) < 65536) × (left ≤ maxLevels) × Few (plus base (passShape pieces left (now s) at .made .counts)) × Room (length (now out)) to (passShape pieces left (now s) at .made .bytes section base) × Linked base ⌝ }
     ensures { λ r. ⌜ PutIs section (now (s .entry)) base (now (out .entry)) (now (out .exit)) to r (passShape pieces left (now (s .entry)) at) ⌝ }
 {
-    match parts::first_at(s, at) {
+    match steps::first_at(s, at) {
         First::Unassigned => Put {
             next: at,
             to,
@@ -400,7 +400,7 @@ fn put_at(
                         there: base,
                     };
                 }
-                let list = parts::list_at(s, at + HEAD_SIZE, kind);
+                let list = steps::list_at(s, at + HEAD_SIZE, kind);
                 let all = put_items(
                     section,
                     s,
@@ -463,7 +463,7 @@ fn put_items(
     let mut due = count;
     while 0 < due {
         due -= 1;
-        let start = parts::past_name(s, at, kind);
+        let start = steps::past_name(s, at, kind);
         text += counts::text_size(&s[at..start]);
         let part = put_at(section, s, start, left, there, out, to);
         to = part.to;

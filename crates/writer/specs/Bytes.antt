@@ -14,7 +14,7 @@ use Rattle.meaning.specs.Table.{Node, Link, Table, arrayKind, mapKind, recordKi
 use Rattle.meaning.specs.TableReading.{nodeSize}
 use Rattle.payloads.specs.declared.first.Kind.{Kind}
 use Rattle.payloads.specs.declared.first.Kind.the-variants.{Array, Map, Record, Function, Symbol}
-use Rattle.parts.specs.Heads.{headBytes}
+use Rattle.steps.specs.Heads.{headBytes}
 use Rattle.tables.specs.declared.Way.{Way}
 use Rattle.tables.specs.declared.Way.the-variants.{Bare, Named, Texts}
 use Rattle.tables.specs.Places.{textPlace, tableIn, nodeAt, linkAt, nameAt, targetKind}

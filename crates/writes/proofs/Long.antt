@@ -17,11 +17,11 @@ use Rattle.payloads.specs.Payload.{shaped}
 use Rattle.payloads.specs.declared.first.Kind.{Kind}
 use Rattle.payloads.specs.declared.first.Kind.the-variants.{Array, Map, Record, Function, Symbol, Variable}
 use Rattle.payloads.specs.declared.first.First.the-variants.{Long}
-use Rattle.parts.specs.Heads.{headBytes}
-use Rattle.parts.specs.Steps.{firstAt, listAt}
-use Rattle.parts.specs.declared.Listing.{Listing}
-use Rattle.parts.specs.Pass.{Came, came, passItems, passShape}
-use Rattle.parts.proofs.Passing.{list-items}
+use Rattle.steps.specs.Heads.{headBytes}
+use Rattle.steps.specs.Steps.{firstAt, listAt}
+use Rattle.steps.specs.declared.Listing.{Listing}
+use Rattle.steps.specs.Pass.{Came, came, passItems, passShape}
+use Rattle.steps.proofs.Passing.{list-items}
 use Rattle.writes.specs.Writes.{Items, writes, packByte, listBytes, Fits, Wrote, WroteItems, Packed, PackedIs}
 use Rattle.writes.specs.declared.Places.{Places}
 use Rattle.writes.specs.declared.Peek.{Peek}

@@ -16,7 +16,7 @@ use Rattle.meaning.specs.Sheet.{plug}
 use Rattle.meaning.proofs.Sound.{by-class}
 use Rattle.meaning.proofs.Plug.{fields-kept, parameters-kept}
 use Rattle.payloads.specs.declared.first.Kind.the-variants.{Array, Map}
-use Rattle.parts.proofs.Passed.{gathered, Making}
+use Rattle.steps.proofs.Passed.{gathered, Making}
 use Rattle.writes.specs.Writes.{Items, items, more, listBytes, shortBytes, writes}
 use Rattle.writes.proofs.Peeks.{codeIf, prim-encoded}
 

@@ -27,10 +27,10 @@ use Rattle.payloads.specs.Payload.{named, shaped, sizeAt}
 use Rattle.payloads.specs.declared.first.Kind.{Kind}
 use Rattle.payloads.specs.declared.first.Kind.the-variants.{Array, Map, Record, Function, Symbol, Variable}
 use Rattle.payloads.specs.declared.first.First.the-variants.{Unassigned, Short, Long}
-use Rattle.parts.specs.Steps.{headSize, firstAt, pastLong, pastName, listAt}
-use Rattle.parts.specs.declared.Listing.{Listing}
-use Rattle.parts.specs.Pass.{Came, came, Passer, longBlank, passItems, passList, passShape}
-use Rattle.parts.proofs.Passing.{below, shape-none, shape-short, shape-symbol, blank-cut, shape-blank, shape-list}
+use Rattle.steps.specs.Steps.{headSize, firstAt, pastLong, pastName, listAt}
+use Rattle.steps.specs.declared.Listing.{Listing}
+use Rattle.steps.specs.Pass.{Came, came, Passer, longBlank, passItems, passList, passShape}
+use Rattle.steps.proofs.Passing.{below, shape-none, shape-short, shape-symbol, blank-cut, shape-blank, shape-list}
 use Rattle.writes.specs.declared.Peek.{Peek}
 use Rattle.writes.specs.Writes.{primCode, codeSaid, Items, more, packByte, listBytes, shortBytes, writes, Peeked, PeekIs, Packed, PackedOf, PackedIs}
 

@@ -13,9 +13,9 @@ use Rattle.meaning.specs.Shape.{Shape}
 use Rattle.buffers.specs.Written.{written}
 use Rattle.buffers.proofs.Written.{written-after}
 use Rattle.payloads.specs.declared.first.Kind.{Kind}
-use Rattle.parts.specs.Steps.{pastName}
-use Rattle.parts.specs.Pass.{came, Passer, passItems}
-use Rattle.parts.proofs.Passing.{items-one}
+use Rattle.steps.specs.Steps.{pastName}
+use Rattle.steps.specs.Pass.{came, Passer, passItems}
+use Rattle.steps.proofs.Passing.{items-one}
 use Rattle.writes.specs.Writes.{Items, writes, FitsItems}
 
 -- The bytes of a list's items only grow.

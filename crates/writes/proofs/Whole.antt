@@ -11,8 +11,8 @@ use Rattle.meaning.specs.Shape.{Shape}
 use Rattle.meaning.specs.Reading.{reading}
 use Rattle.meaning.proofs.Window.{bytes-by-index}
 use Rattle.meaning.proofs.Laws.{by-reading}
-use Rattle.parts.specs.Pass.{passShape}
-use Rattle.parts.proofs.Passed.{pass-whole}
+use Rattle.steps.specs.Pass.{passShape}
+use Rattle.steps.proofs.Passed.{pass-whole}
 use Rattle.writes.specs.Writes.{writes, Fits, Wrote, RoomFor, WroteFor}
 use Rattle.writes.specs.declared.Places.{Places}
 use Rattle.writes.proofs.Making.{writes-making}

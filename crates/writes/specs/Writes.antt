@@ -16,8 +16,8 @@ use Rattle.meaning.specs.Sheet.{plug}
 use Rattle.buffers.specs.Written.{written}
 use Rattle.payloads.specs.declared.first.Kind.{Kind}
 use Rattle.payloads.specs.declared.first.Kind.the-variants.{Array, Map, Record, Function, Symbol, Variable}
-use Rattle.parts.specs.Heads.{headBytes}
-use Rattle.parts.specs.Pass.{Came, Pass, passItems, passShape}
+use Rattle.steps.specs.Heads.{headBytes}
+use Rattle.steps.specs.Pass.{Came, Pass, passItems, passShape}
 use Rattle.writes.specs.declared.Places.{Places}
 use Rattle.writes.specs.declared.Peek.{Peek}
 

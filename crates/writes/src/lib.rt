@@ -3,10 +3,10 @@
 use buffers::put_byte;
 use buffers::put_part;
 use leaves::limits::MAX_LEVELS;
-use parts::HEAD_SIZE;
-use parts::LONG_BLANK;
-use parts::put::put_blank;
-use parts::put::put_head;
+use steps::HEAD_SIZE;
+use steps::LONG_BLANK;
+use steps::put::put_blank;
+use steps::put::put_head;
 use payloads::first::First;
 use payloads::first::Kind;
 use payloads::first::PACKED;
@@ -26,8 +26,8 @@ ghost use Rattle.meaning.specs.Reading.{reading};
 ghost use Rattle.buffers.specs.Written.{written};
 ghost use Rattle.payloads.specs.declared.first.First.the-variants.{Long};
 ghost use Rattle.payloads.specs.Payload.{shaped};
-ghost use Rattle.parts.specs.Steps.{firstAt};
-ghost use Rattle.parts.specs.Pass.{passItems, passShape};
+ghost use Rattle.steps.specs.Steps.{firstAt};
+ghost use Rattle.steps.specs.Pass.{passItems, passShape};
 ghost use Rattle.sheets.specs.Index.{Ready, blankIn};
 ghost use Rattle.writes.specs.Writes.{primCode, codeSaid, PeekIs, PackedIs, shortBytes, writes, Fits, Wrote, FitsItems, WroteItems, RoomFor, WroteFor};
 
@@ -117,7 +117,7 @@ fn prim_at(s: &[u8], sheet: &[u8], index: &[u16], at: usize) -> Peek
     requires { ⌜ Ready (now sheet) (now index) ⌝ }
     ensures { λ r. ⌜ PeekIs (blankIn (now (sheet .entry))) (now (s .entry)) at r ⌝ }
 {
-    match parts::first_at(s, at) {
+    match steps::first_at(s, at) {
         First::Unassigned => Peek {
             next: at,
             code: NO_PRIMITIVE,
@@ -236,7 +236,7 @@ fn put_plain(
     ensures { λ r. ⌜ Wrote (now (out .entry)) (now (out .exit)) to r (passShape (writes (blankIn (now (sheet .entry)))) left (now (s .entry)) at) ⌝ }
 {
     if payloads::named_kind(kind) {
-        let next = parts::past_long(s, at);
+        let next = steps::past_long(s, at);
         put_part(out, to, s, at, next);
         return Places {
             next,
@@ -274,7 +274,7 @@ fn put_shape(
         if s.len() - at < HEAD_SIZE {
             return Places { next: at, to };
         }
-        let list = parts::list_at(s, at + HEAD_SIZE, kind);
+        let list = steps::list_at(s, at + HEAD_SIZE, kind);
         let from = list.from;
         let one = packed_at(s, sheet, index, from, kind);
         if 0 < one.code {
@@ -326,10 +326,10 @@ fn put_items(
     let mut due = count;
     while 0 < due {
         due -= 1;
-        let start = parts::past_name(s, at, kind);
+        let start = steps::past_name(s, at, kind);
         put_part(out, to, s, at, start);
         let after = to + (start - at);
-        match parts::first_at(s, start) {
+        match steps::first_at(s, start) {
             First::Unassigned => {
                 at = start;
                 to = after;
@@ -353,7 +353,7 @@ pub fn write(template: &[u8], sheet: &[u8], index: &[u16], out: &mut [u8], to: u
     requires { ⌜ Ready (now sheet) (now index) × RoomFor (blankIn (now sheet)) (length (now out)) to (reading (now template)) ⌝ }
     ensures { λ r. ⌜ WroteFor (blankIn (now (sheet .entry))) (now (out .entry)) (now (out .exit)) to r (reading (now (template .entry))) ⌝ }
 {
-    match parts::first_at(template, 0) {
+    match steps::first_at(template, 0) {
         First::Unassigned => to,
         First::Short { levels: _ } => put_short(sheet, index, template[0], out, to),
         First::Long { kind } => put_shape(template, sheet, index, 0, MAX_LEVELS, kind, out, to).to,

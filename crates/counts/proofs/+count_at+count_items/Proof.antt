@@ -6,8 +6,8 @@ use native.Mathlib.Omega.{arith}
 use Prim.Native.Nat.{ℕ, _<_, _≤_, _+_, _*_}
 use mathlib.Core.Path.{refl, sym, _∙_}
 use lib.ListN.{length}
-use Rattle.parts.specs.Pass.{passShape}
-use Rattle.parts.proofs.Passing.{shape-none, shape-short, list-deep, list-cut}
+use Rattle.steps.specs.Pass.{passShape}
+use Rattle.steps.proofs.Passing.{shape-none, shape-short, list-deep, list-cut}
 use Rattle.counts.specs.Pieces.{noItems, pieces}
 use Rattle.counts.proofs.Counting.{Tallied, text-few, shape-few, sum-few, tally-turn, tally-end, IsList, is-list, list-few, list-sum, list-counted}
 use borrow.Fn.Kinds.{In}
@@ -18,9 +18,9 @@ use Rattle.counts.proofs.+count_at+count_items.Lts-count_at as count-at
 use Rattle.counts.proofs.count_items.Reads as count-items
 use Rattle.counts.proofs.count_items.Kinds as count-items-kinds
 use Rattle.counts.proofs.+count_at+count_items.Lts-count_items as count-items-lts
-use Rattle.parts.proofs.first_at.Reads as first-at-reads
-use Rattle.parts.proofs.list_at.Reads as list-at-reads
-use Rattle.parts.proofs.past_name.Reads as past-name-reads
+use Rattle.steps.proofs.first_at.Reads as first-at-reads
+use Rattle.steps.proofs.list_at.Reads as list-at-reads
+use Rattle.steps.proofs.past_name.Reads as past-name-reads
 use Rattle.payloads.proofs.shaped_kind.Reads as shaped-kind-reads
 use Rattle.counts.proofs.count_plain.Reads as count-plain-reads
 use Rattle.counts.proofs.no_counts.Reads as no-counts-reads

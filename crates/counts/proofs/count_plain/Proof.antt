@@ -3,7 +3,7 @@
 use borrow.Author.Needs.{needs}
 use mathlib.Core.Path.{refl, sym, _∙_}
 use Rattle.counts.specs.Pieces.{pieces}
-use Rattle.parts.proofs.Passing.{shape-symbol, blank-cut, shape-blank}
+use Rattle.steps.proofs.Passing.{shape-symbol, blank-cut, shape-blank}
 use Rattle.counts.proofs.Counting.{part-is}
 use Rattle.counts.proofs.count_plain.Statement.{statement}
 use Rattle.counts.proofs.count_plain.Tie as tie

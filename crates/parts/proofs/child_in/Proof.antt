@@ -3,7 +3,7 @@
 use borrow.Author.Needs.{needs}
 use borrow.Author.Tests.{lt-ltb}
 use Rattle.meaning.proofs.Rules.{tests}
-use Rattle.parts.specs.Steps.{childIn}
+use Rattle.parts.specs.Found.{childIn}
 use Rattle.parts.proofs.child_in.Statement.{statement}
 use Rattle.parts.proofs.child_in.Tie as tie
 

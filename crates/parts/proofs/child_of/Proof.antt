@@ -1,7 +1,7 @@
 -- `parts::child_of` meets its contract.
 -- Assumes nothing.
 use borrow.Author.Needs.{needs}
-use Rattle.parts.specs.Steps.{childSteps, childBy}
+use Rattle.parts.specs.Found.{childSteps, childBy}
 use Rattle.parts.proofs.child_of.Statement.{statement}
 use Rattle.parts.proofs.child_of.Tie as tie
 

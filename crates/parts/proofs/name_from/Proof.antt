@@ -1,7 +1,7 @@
 -- `parts::name_from` meets its contract.
 -- Assumes nothing.
 use borrow.Author.Needs.{needs}
-use Rattle.parts.specs.Steps.{nameFrom}
+use Rattle.parts.specs.Found.{nameFrom}
 use Rattle.parts.proofs.name_from.Statement.{statement}
 use Rattle.parts.proofs.name_from.Tie as tie
 

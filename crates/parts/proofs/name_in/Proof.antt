@@ -3,7 +3,7 @@
 use borrow.Author.Needs.{needs}
 use borrow.Author.Tests.{lt-ltb}
 use Rattle.meaning.proofs.Rules.{tests}
-use Rattle.parts.specs.Steps.{nameIn}
+use Rattle.parts.specs.Found.{nameIn}
 use Rattle.parts.proofs.name_in.Statement.{statement}
 use Rattle.parts.proofs.name_in.Tie as tie
 

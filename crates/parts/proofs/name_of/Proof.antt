@@ -1,7 +1,7 @@
 -- `parts::name_of` meets its contract.
 -- Assumes nothing.
 use borrow.Author.Needs.{needs}
-use Rattle.parts.specs.Steps.{nameSteps, nameWith}
+use Rattle.parts.specs.Found.{nameSteps, nameWith}
 use Rattle.parts.proofs.name_of.Statement.{statement}
 use Rattle.parts.proofs.name_of.Tie as tie
 

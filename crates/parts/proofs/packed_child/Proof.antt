@@ -2,7 +2,7 @@
 -- Assumes nothing.
 use borrow.Author.Needs.{needs}
 use Rattle.meaning.proofs.Rules.{tests}
-use Rattle.parts.specs.Steps.{packedChild}
+use Rattle.parts.specs.Found.{packedChild}
 use Rattle.parts.proofs.packed_child.Statement.{statement}
 use Rattle.parts.proofs.packed_child.Tie as tie
 

@@ -8,9 +8,9 @@ use Prim.Native.Nat.{ℕ, _<_, _≤_, _+_, _*_}
 use lib.ListN.{length}
 use Rattle.sheets.specs.Index.{blankIn}
 use Rattle.sizes.specs.Sizes.{sizes}
-use Rattle.parts.specs.Pass.{Came}
+use Rattle.steps.specs.Pass.{Came}
 use Rattle.sizes.specs.declared.Size.{Size}
-use Rattle.parts.proofs.Passing.{shape-none, shape-short, list-deep, list-cut, items-none}
+use Rattle.steps.proofs.Passing.{shape-none, shape-short, list-deep, list-cut, items-none}
 use Rattle.sizes.proofs.Sums.{Going, room, turn, nothing-inside, short-inside, list-is}
 use borrow.Fn.Kinds.{In}
 use borrow.Fn.PlainCycle.{Measures, is, falls, and}
@@ -20,9 +20,9 @@ use Rattle.sizes.proofs.+items_size+shape_size.Lts-items_size as items-
 use Rattle.sizes.proofs.shape_size.Reads as shape-size
 use Rattle.sizes.proofs.shape_size.Kinds as shape-size-kinds
 use Rattle.sizes.proofs.+items_size+shape_size.Lts-shape_size as shape-size-lts
-use Rattle.parts.proofs.first_at.Reads as first-at-reads
-use Rattle.parts.proofs.list_at.Reads as list-at-reads
-use Rattle.parts.proofs.past_name.Reads as past-name-reads
+use Rattle.steps.proofs.first_at.Reads as first-at-reads
+use Rattle.steps.proofs.list_at.Reads as list-at-reads
+use Rattle.steps.proofs.past_name.Reads as past-name-reads
 use Rattle.payloads.proofs.shaped_kind.Reads as shaped-kind-reads
 use Rattle.sizes.proofs.list_size.Reads as list-size-reads
 use Rattle.sizes.proofs.nothing.Reads as nothing-reads

@@ -4,11 +4,11 @@ use borrow.Author.Needs.{needs}
 use mathlib.Core.Path.{sym, ap, _∙_}
 use native.Mathlib.Omega.{arith}
 use Rattle.meaning.specs.Limits.{maxLevels}
-use Rattle.parts.specs.Pass.{Came}
+use Rattle.steps.specs.Pass.{Came}
 use Rattle.sheets.specs.Index.{blankIn}
 use Rattle.sizes.specs.declared.Size.{Size}
 use Rattle.sizes.specs.Sizes.{sizes}
-use Rattle.parts.proofs.Passing.{shape-none, shape-short}
+use Rattle.steps.proofs.Passing.{shape-none, shape-short}
 use Rattle.sizes.proofs.Making.{measured}
 use Rattle.sizes.proofs.measure.Statement.{statement}
 use Rattle.sizes.proofs.measure.Tie as tie

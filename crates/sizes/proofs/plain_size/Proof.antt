@@ -5,7 +5,7 @@ use mathlib.Core.Path.{sym, _∙_}
 use lib.Seq.{length-slice}
 use Rattle.sheets.specs.Index.{blankIn}
 use Rattle.sizes.specs.Sizes.{sizes}
-use Rattle.parts.proofs.Passing.{shape-symbol, blank-cut, shape-blank}
+use Rattle.steps.proofs.Passing.{shape-symbol, blank-cut, shape-blank}
 use Rattle.sizes.proofs.Sums.{nothing-inside}
 use Rattle.sizes.proofs.plain_size.Statement.{statement}
 use Rattle.sizes.proofs.plain_size.Tie as tie

@@ -6,8 +6,8 @@ use native.Mathlib.Omega.{arith}
 use Prim.Native.Nat.{ℕ, _<_, _≤_, _+_, _*_}
 use mathlib.Core.Path.{refl, sym, _∙_}
 use lib.ListN.{length}
-use Rattle.parts.specs.Pass.{passShape}
-use Rattle.parts.proofs.Passing.{shape-none, shape-short, list-deep, list-cut}
+use Rattle.steps.specs.Pass.{passShape}
+use Rattle.steps.proofs.Passing.{shape-none, shape-short, list-deep, list-cut}
 use Rattle.counts.specs.Pieces.{pieces}
 use Rattle.counts.proofs.Linked.{shape-linked}
 use Rattle.counts.proofs.Counting.{IsList, is-list}
@@ -20,9 +20,9 @@ use Rattle.way_back.proofs.+put_at+put_items.Lts-put_at as put-at-lts
 use Rattle.way_back.proofs.put_items.Reads as put-items
 use Rattle.way_back.proofs.put_items.Kinds as put-items-kinds
 use Rattle.way_back.proofs.+put_at+put_items.Lts-put_items as put-items-lts
-use Rattle.parts.proofs.first_at.Reads as first-at-reads
-use Rattle.parts.proofs.list_at.Reads as list-at-reads
-use Rattle.parts.proofs.past_name.Reads as past-name-reads
+use Rattle.steps.proofs.first_at.Reads as first-at-reads
+use Rattle.steps.proofs.list_at.Reads as list-at-reads
+use Rattle.steps.proofs.past_name.Reads as past-name-reads
 use Rattle.payloads.proofs.shaped_kind.Reads as shaped-kind-reads
 use Rattle.counts.proofs.count_plain.Reads as count-plain-reads
 use Rattle.counts.proofs.own_counts.Reads as own-counts-reads

@@ -8,7 +8,7 @@ use borrow.Author.Tests.{not-true}
 use Prim.Native.Nat.{_≤_}
 use mathlib.Core.Path.{refl, sym, _∙_}
 use lib.ListN.{length}
-use Rattle.parts.proofs.Passing.{items-none}
+use Rattle.steps.proofs.Passing.{items-none}
 use Rattle.counts.specs.Pieces.{noItems}
 use Rattle.way_back.proofs.Wrote.{wrote-none}
 use Rattle.way_back.proofs.Entries.{no-own}

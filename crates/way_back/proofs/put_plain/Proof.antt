@@ -4,7 +4,7 @@ use borrow.Author.Needs.{needs}
 use native.Mathlib.Omega.{arith}
 use mathlib.Core.Path.{sym, _∙_}
 use lib.ListN.{length-take, length-drop}
-use Rattle.parts.proofs.Passing.{blank-cut, shape-blank}
+use Rattle.steps.proofs.Passing.{blank-cut, shape-blank}
 use Rattle.counts.specs.Pieces.{pieces}
 use Rattle.way_back.proofs.Wrote.{wrote-none}
 use Rattle.way_back.proofs.Texts.{symbol-here}

@@ -20,8 +20,8 @@ use Rattle.writer.proofs.put_run.Reads as put-run
 use Rattle.writer.proofs.put_run.Kinds as put-run-kinds
 use Rattle.writer.proofs.+put_node+put_run.Lts-put_run as put-run-lts
 use Rattle.buffers.proofs.put_byte.Reads as put-byte-reads
-use Rattle.parts.proofs.put.put_blank.Reads as put-blank-reads
-use Rattle.parts.proofs.put.put_head.Reads as put-head-reads
+use Rattle.steps.proofs.put.put_blank.Reads as put-blank-reads
+use Rattle.steps.proofs.put.put_head.Reads as put-head-reads
 use Rattle.tables.proofs.link_at.Reads as link-at-reads
 use Rattle.tables.proofs.node_at.Reads as node-at-reads
 use Rattle.writer.proofs.form_of.Reads as form-of-reads

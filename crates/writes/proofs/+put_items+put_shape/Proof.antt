@@ -10,9 +10,9 @@ use mathlib.Core.List.{[]}
 use mathlib.Core.Option.{some}
 use lib.ListN.{length}
 use Rattle.buffers.proofs.Written.{written-none}
-use Rattle.parts.specs.Pass.{passShape}
-use Rattle.parts.proofs.Passing.{shape-none, shape-short, list-deep, list-cut, items-none}
-use Rattle.parts.proofs.Inside.{shape-inside}
+use Rattle.steps.specs.Pass.{passShape}
+use Rattle.steps.proofs.Passing.{shape-none, shape-short, list-deep, list-cut, items-none}
+use Rattle.steps.proofs.Inside.{shape-inside}
 use Rattle.sheets.specs.Index.{blankIn}
 use Rattle.writes.specs.Writes.{items, writes}
 use Rattle.writes.proofs.Turns.{Turn, room-name, room-shape, turn-on, turn-made}
@@ -27,10 +27,10 @@ use Rattle.writes.proofs.put_shape.Kinds as put-shape-kinds
 use Rattle.writes.proofs.+put_items+put_shape.Lts-put_shape as put-shape-lts
 use Rattle.buffers.proofs.put_byte.Reads as put-byte-reads
 use Rattle.buffers.proofs.put_part.Reads as put-part-reads
-use Rattle.parts.proofs.first_at.Reads as first-at-reads
-use Rattle.parts.proofs.list_at.Reads as list-at-reads
-use Rattle.parts.proofs.past_name.Reads as past-name-reads
-use Rattle.parts.proofs.put.put_head.Reads as put-head-reads
+use Rattle.steps.proofs.first_at.Reads as first-at-reads
+use Rattle.steps.proofs.list_at.Reads as list-at-reads
+use Rattle.steps.proofs.past_name.Reads as past-name-reads
+use Rattle.steps.proofs.put.put_head.Reads as put-head-reads
 use Rattle.payloads.proofs.shaped_kind.Reads as shaped-kind-reads
 use Rattle.writes.proofs.packed_at.Reads as packed-at-reads
 use Rattle.writes.proofs.put_plain.Reads as put-plain-reads

@@ -5,7 +5,7 @@ use native.Mathlib.Omega.{arith}
 use mathlib.Core.Path.{refl, sym, _∙_}
 use lib.Seq.{length-slice}
 use Rattle.buffers.proofs.Written.{written-none}
-use Rattle.parts.proofs.Passing.{shape-symbol, blank-cut, shape-blank}
+use Rattle.steps.proofs.Passing.{shape-symbol, blank-cut, shape-blank}
 use Rattle.sheets.specs.Index.{blankIn}
 use Rattle.writes.specs.Writes.{writes}
 use Rattle.writes.proofs.put_plain.Statement.{statement}

@@ -6,7 +6,7 @@ use native.Mathlib.Nat.{add-zero}
 use mathlib.Core.Path.{refl, sym, _∙_}
 use Rattle.meaning.specs.Limits.{maxLevels}
 use Rattle.buffers.proofs.Written.{written-none}
-use Rattle.parts.proofs.Passing.{shape-none, shape-short}
+use Rattle.steps.proofs.Passing.{shape-none, shape-short}
 use Rattle.sheets.specs.Index.{blankIn}
 use Rattle.writes.specs.Writes.{writes}
 use Rattle.writes.proofs.Whole.{whole-room, whole-wrote}

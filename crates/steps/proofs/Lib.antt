@@ -1,0 +1,6 @@
+pub mod Turns
+pub mod Places
+pub mod Items
+pub mod Passed
+pub mod Passing
+pub mod Inside
