@@ -34,10 +34,10 @@ use Rattle.sheets.specs.Steps.{entryPlace}
 use Rattle.sheets.specs.Index.{sheetIn, Ready}
 use Rattle.sheets.proofs.Whole.{checked-place, broken-is}
 use Rattle.sheets.proofs.Places.{ready-within}
-use Rattle.joins.specs.declared.Measured.{Measured}
-use Rattle.joins.specs.declared.Measured.the-variants.{Deep, Long}
-use Rattle.joins.specs.declared.Measured.the-variants as measured
-use Rattle.joins.specs.Merge.{Fitting, measuredAll}
+use Rattle.merges.specs.declared.Measured.{Measured}
+use Rattle.merges.specs.declared.Measured.the-variants.{Deep, Long}
+use Rattle.merges.specs.declared.Measured.the-variants as measured
+use Rattle.merges.specs.Merge.{Fitting, measuredAll}
 
 -- what is answered where entries measure so, and a is the answer if all fit
 abbrev measuredAnswer : Measured → Answer → Answer

@@ -1,73 +1,29 @@
--- An entry of a sheet, filled: where its encoding stands, the passes over those bytes speak of its shape.
---     part-bytes       the bytes of a part are the encoding of its shape
---     part-reading     they are read as that shape
---     part-length      a part is as long as the encoding of its shape
---     part-short       so it is short enough for a template
---     span-filled      what is measured there is the span of the shape, filled
+-- An entry of a sheet, filled: where its encoding stands, the pass that writes from those bytes speaks of its shape.
 --     room-filled      there is room for the shape, filled
 --     wrote-filled     what is written is the encoding of the shape, filled
 -- Assumes nothing.
-use Prim.Native.Nat.{ℕ, _+_, _-_, _≤_}
-use mathlib.Core.Path.{_≡_, sym, _∙_, ap}
-use mathlib.Core.List.{List, []}
-use native.Mathlib.Omega.{arith}
-use lib.ListN.{length, take, drop}
-use lib.Seq.{take-length, length-slice}
+use Prim.Native.Nat.{ℕ, _+_, _≤_}
+use mathlib.Core.Path.{_≡_}
+use mathlib.Core.List.{List}
+use lib.ListN.{length}
 use Rattle.meaning.specs.Limits.{maxBytes}
-use Rattle.meaning.specs.Shape.{Shape, depth}
+use Rattle.meaning.specs.Shape.{Shape}
 use Rattle.meaning.specs.Encode.{encode}
-use Rattle.meaning.specs.Reading.{got, reading}
+use Rattle.meaning.specs.Reading.{reading}
 use Rattle.meaning.specs.Sheet.{plug}
-use Rattle.meaning.proofs.Window.{window-take}
-use Rattle.meaning.proofs.Laws.{reading-encode}
 use Rattle.buffers.specs.Written.{written}
 use Rattle.sheets.specs.declared.Part.{Part}
 use Rattle.sheets.specs.Index.{PartIs}
-use Rattle.sizes.specs.declared.Size.{Size}
-use Rattle.sizes.specs.Sizes.{MeasureIs}
 use Rattle.writes.specs.Writes.{RoomFor, WroteFor}
-use Rattle.joins.specs.declared.Span.{Span}
-
--- the bytes from start to end, as a call is lent them
-abbrev lent : List ℕ → Part → List ℕ
-lent s p = take (p .end - p .start) (drop (p .start) s)
-
--- a length and a depth
-abbrev span : ℕ → ℕ → Span
-span l d = record { length = l; depth = d }
+use Rattle.merges.proofs.Filling.{lent, part-reading}
 
 module _ {s : List ℕ} {t : Shape} {p : Part} (h : PartIs s t p) where
-  -- The bytes of a part are the encoding of its shape.
-  part-bytes : lent s p ≡ encode t
-  part-bytes =
-      let b = h .inside in
-      let a = h .some in
-      let z : p .start + (p .end - p .start) ≡ p .end = omega arith in
-      rw (take-length s, z) at (window-take s (p .start) (length s) (p .end - p .start) (omega arith)) ∙ h .is
-
-  -- They are read as that shape.
-  part-reading : reading (lent s p) ≡ got t []
-  part-reading = rw part-bytes (reading-encode t (h .within))
-
-  -- A part is as long as the encoding of its shape.
-  pub part-length : p .end - p .start ≡ length (encode t)
-  part-length = sym (length-slice (p .start) (p .end) s (h .inside)) ∙ ap length (h .is)
-
-  -- Its bytes are few enough for a template.
-  pub part-short : length (lent s p) ≤ maxBytes
-  part-short = rw part-bytes (h .within .short)
-
-  -- What is measured there is the span of the shape, filled.
-  pub span-filled : (σ : ℕ → Shape) (z : Size) → MeasureIs σ (reading (lent s p)) z
-      → span (z .length) (z .depth) ≡ span (length (encode (plug σ t))) (depth (plug σ t))
-  span-filled σ z m = ap (λ (z : Size). span (z .length) (z .depth)) (rw part-reading at m)
-
   -- There is room for the shape, filled.
   pub room-filled : (σ : ℕ → Shape) (room to : ℕ) → to + length (encode (plug σ t)) ≤ room → length (encode (plug σ t)) ≤ maxBytes
       → RoomFor σ room to (reading (lent s p))
-  room-filled σ room to a b = rw part-reading (a, b)
+  room-filled σ room to a b = rw (part-reading h) (a, b)
 
   -- What is written is the encoding of the shape, filled.
   pub wrote-filled : (σ : ℕ → Shape) (d e : List ℕ) (to r : ℕ) → WroteFor σ d e to r (reading (lent s p))
       → (r ≡ to + length (encode (plug σ t))) × (e ≡ written d to (encode (plug σ t)))
-  wrote-filled σ d e to r w = rw part-reading at w
+  wrote-filled σ d e to r w = rw (part-reading h) at w

@@ -1,4 +1,3 @@
-pub mod Merging
 pub mod Answering
 pub mod Filling
 pub mod Putting

@@ -23,8 +23,8 @@ use Rattle.buffers.specs.Written.{written}
 use Rattle.buffers.proofs.Written.{written-length, written-none, written-after, written-before, written-apart}
 use Rattle.sheets.specs.Steps.{entryPlace}
 use Rattle.sheets.proofs.Places.{all-at}
-use Rattle.joins.specs.declared.Turn.{Turn}
-use Rattle.joins.specs.Merge.{joinedFrom, nextEntry, Whose, TurnIs, Fitting}
+use Rattle.merges.specs.declared.Turn.{Turn}
+use Rattle.merges.specs.Merge.{joinedFrom, nextEntry, Whose, TurnIs, Fitting}
 
 -- Each of two runs goes on, the first up to the second.
 two-runs : (d x y v e : List ℕ) (at to : ℕ) → at + length x + length v ≤ to → to + length y + length e ≤ length d

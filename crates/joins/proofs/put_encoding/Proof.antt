@@ -5,7 +5,8 @@ use native.Mathlib.Omega.{arith}
 use Prim.Native.Nat.{_+_}
 use mathlib.Core.Path.{ap}
 use Rattle.sheets.specs.Index.{blankIn}
-use Rattle.joins.proofs.Filling.{part-length, room-filled, wrote-filled}
+use Rattle.merges.proofs.Filling.{part-length}
+use Rattle.joins.proofs.Filling.{room-filled, wrote-filled}
 use Rattle.joins.proofs.put_encoding.Statement.{statement}
 use Rattle.joins.proofs.put_encoding.Tie as tie
 

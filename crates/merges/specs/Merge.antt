@@ -1,4 +1,4 @@
--- The joined sheet, entry by entry in rising order, as the code meets them. Private functions' contracts cite it, no public one does.
+-- The joined sheet, entry by entry in rising order, as the code meets them. Contracts between our own crates cite it, no public one does.
 use Prim.Native.Nat.{ℕ, _+_, _≤_, _<_}
 use mathlib.Core.Path.{_≡_}
 use mathlib.Core.List.{[], _∷_}
@@ -12,11 +12,11 @@ use Rattle.meaning.specs.Encode.{encode}
 use Rattle.meaning.specs.Numbered.{Numbered, All, over, each}
 use Rattle.meaning.specs.Sheet.{Sheet, fill}
 use Rattle.sheets.specs.Index.{entry}
-use Rattle.joins.specs.declared.Turn.{Turn}
-use Rattle.joins.specs.declared.Span.{Span}
-use Rattle.joins.specs.declared.Measured.{Measured}
-use Rattle.joins.specs.declared.Measured.the-variants.{Deep, Long}
-use Rattle.joins.specs.declared.Measured.the-variants as measured
+use Rattle.merges.specs.declared.Turn.{Turn}
+use Rattle.merges.specs.declared.Span.{Span}
+use Rattle.merges.specs.declared.Measured.{Measured}
+use Rattle.merges.specs.declared.Measured.the-variants.{Deep, Long}
+use Rattle.merges.specs.declared.Measured.the-variants as measured
 
 -- what is left of the joined sheet after i entries of the first and j of the second
 abbrev pub joinedFrom : Sheet → Sheet → ℕ → ℕ → Sheet

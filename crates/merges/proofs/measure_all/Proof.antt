@@ -1,4 +1,4 @@
--- `joins::measure_all` meets its contract. The invariant: all entries measure as those that are left do, after the bytes of those measured.
+-- `merges::measure_all` meets its contract. The invariant: all entries measure as those that are left do, after the bytes of those measured.
 -- Assumes nothing.
 use borrow.Author.Needs.{needs}
 use native.Mathlib.Omega.{arith}
@@ -9,10 +9,10 @@ use Rattle.meaning.specs.Limits.{maxBytes}
 use Rattle.meaning.specs.Sheet.{join}
 use Rattle.sheets.specs.Index.{sheetIn}
 use Rattle.sheets.proofs.Places.{ready-within, ready-count, ready-room}
-use Rattle.joins.specs.Merge.{joinedFrom, measuredAll}
-use Rattle.joins.proofs.Merging.{joined-end, turn-deep, turn-long, turn-fits}
-use Rattle.joins.proofs.measure_all.Statement.{statement}
-use Rattle.joins.proofs.measure_all.Tie as tie
+use Rattle.merges.specs.Merge.{joinedFrom, measuredAll}
+use Rattle.merges.proofs.Merging.{joined-end, turn-deep, turn-long, turn-fits}
+use Rattle.merges.proofs.measure_all.Statement.{statement}
+use Rattle.merges.proofs.measure_all.Tie as tie
 
 abbrev Inv-loop : tie.InvT-loop
 Inv-loop first index second other all i₀ j₀ bytes₀ i j bytes =

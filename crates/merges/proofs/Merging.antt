@@ -22,10 +22,10 @@ use Rattle.meaning.proofs.Numbered.{over-less, over-more, over-same, each-risin
 use Rattle.sheets.specs.Index.{sheetIn, entry, Ready}
 use Rattle.sheets.specs.Steps.{blankAt}
 use Rattle.sheets.proofs.Places.{ready-within, ready-count, ready-number}
-use Rattle.joins.specs.declared.Turn.{Turn}
-use Rattle.joins.specs.declared.Span.{Span}
-use Rattle.joins.specs.declared.Measured.the-variants.{Deep, Long}
-use Rattle.joins.specs.Merge.{joinedFrom, nextEntry, TurnIs, spanOf, measuredAll}
+use Rattle.merges.specs.declared.Turn.{Turn}
+use Rattle.merges.specs.declared.Span.{Span}
+use Rattle.merges.specs.declared.Measured.the-variants.{Deep, Long}
+use Rattle.merges.specs.Merge.{joinedFrom, nextEntry, TurnIs, spanOf, measuredAll}
 
 -- What is left of a sheet after i entries begins with entry i.
 rest : (σ : Sheet) (i : ℕ) → i < length σ → drop i σ ≡ entry σ i ∷ drop (i + 1) σ

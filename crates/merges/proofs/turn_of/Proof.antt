@@ -1,11 +1,11 @@
--- `joins::turn_of` meets its contract.
+-- `merges::turn_of` meets its contract.
 -- Assumes nothing.
 use borrow.Author.Needs.{needs}
 use native.Mathlib.Omega.{arith}
 use Rattle.sheets.proofs.Places.{ready-within, ready-count, ready-room, entry-room}
-use Rattle.joins.proofs.Merging.{first-next, both-next, second-next}
-use Rattle.joins.proofs.turn_of.Statement.{statement}
-use Rattle.joins.proofs.turn_of.Tie as tie
+use Rattle.merges.proofs.Merging.{first-next, both-next, second-next}
+use Rattle.merges.proofs.turn_of.Statement.{statement}
+use Rattle.merges.proofs.turn_of.Tie as tie
 
 two-at-requires : tie.Need-two-at-requires
 two-at-requires c κs = omega (arith, ready-room (c .before .before .before .before .pre .0))

@@ -1,10 +1,10 @@
--- `joins::span_at` meets its contract.
+-- `merges::span_at` meets its contract.
 -- Assumes nothing.
 use borrow.Author.Needs.{needs}
 use Rattle.sheets.specs.Index.{blankIn}
-use Rattle.joins.proofs.Filling.{part-length, part-short, span-filled}
-use Rattle.joins.proofs.span_at.Statement.{statement}
-use Rattle.joins.proofs.span_at.Tie as tie
+use Rattle.merges.proofs.Filling.{part-length, part-short, span-filled}
+use Rattle.merges.proofs.span_at.Statement.{statement}
+use Rattle.merges.proofs.span_at.Tie as tie
 
 entry-at-requires : tie.Need-entry-at-requires
 entry-at-requires c κs =

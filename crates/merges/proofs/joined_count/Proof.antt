@@ -1,4 +1,4 @@
--- `joins::joined_count` meets its contract. The invariant: the entries counted and those that are left are all of them.
+-- `merges::joined_count` meets its contract. The invariant: the entries counted and those that are left are all of them.
 -- Assumes nothing.
 use borrow.Author.Needs.{needs}
 use native.Mathlib.Omega.{arith}
@@ -8,10 +8,10 @@ use lib.ListN.{length}
 use Rattle.meaning.specs.Sheet.{join}
 use Rattle.sheets.specs.Index.{sheetIn}
 use Rattle.sheets.proofs.Places.{ready-within, ready-count, ready-room}
-use Rattle.joins.specs.Merge.{joinedFrom}
-use Rattle.joins.proofs.Merging.{joined-end}
-use Rattle.joins.proofs.joined_count.Statement.{statement}
-use Rattle.joins.proofs.joined_count.Tie as tie
+use Rattle.merges.specs.Merge.{joinedFrom}
+use Rattle.merges.proofs.Merging.{joined-end}
+use Rattle.merges.proofs.joined_count.Statement.{statement}
+use Rattle.merges.proofs.joined_count.Tie as tie
 
 abbrev Inv-loop : tie.InvT-loop
 Inv-loop first index second other all i₀ j₀ count₀ i j count =
