@@ -1,6 +1,4 @@
-pub mod Wrote
-pub mod Entries
+pub mod Packed
 pub mod Texts
-pub mod Owning
 pub mod Putting
 pub mod Cases

@@ -29,9 +29,10 @@ use Rattle.counts.proofs.Counting.{part, part-is, allOf, IsList}
 use Rattle.counts.proofs.Linked.{items-linked, shape-linked}
 use Rattle.way_back.specs.declared.Put.{Put}
 use Rattle.way_back.specs.declared.PutItems.{PutItems}
-use Rattle.way_back.specs.Puts.{FewAfter, FewOwn, Wrote, PutIs, PutItemsIs, Room}
+use Rattle.entries.specs.Entries.{FewOwn, Wrote, Room}
+use Rattle.way_back.specs.Puts.{FewAfter, PutIs, PutItemsIs}
 use Rattle.way_back.proofs.Texts.{plus-none}
-use Rattle.way_back.proofs.Wrote.{wrote-none, wrote-after}
+use Rattle.entries.proofs.Wrote.{wrote-none, wrote-after}
 
 -- Counts may be added in any grouping.
 plus-assoc : (a b c : Counts) → plus (plus a b) c ≡ plus a (plus b c)

@@ -29,7 +29,7 @@ use Rattle.counts.specs.declared.Counts.{Counts}
 use Rattle.counts.specs.declared.Section.{Section}
 use Rattle.counts.specs.Pieces.{none, plus, Few, nodeEntry, nothing, Gathered, noItems, withItem, ownBytes, listPiece, gatherTexts, symbolPiece, pieces, inner}
 use Rattle.counts.proofs.Counting.{part-is}
-use Rattle.way_back.specs.Puts.{FewOwn, itemsAt}
+use Rattle.entries.specs.Entries.{FewOwn, itemsAt}
 
 module _ (w : List ℕ) where
   -- The texts are items without shapes.

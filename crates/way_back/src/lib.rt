@@ -1,44 +1,42 @@
 // The way back: from an encoding to the node table of its shape (01-scope.md, "Node table"). Nothing is shared: children first, then the node. The
 // entries are counted first, so a refusal has written nothing; then each section is written by a pass of its own.
 use buffers::Made;
-use buffers::put_part;
 use buffers::put_two;
 use counts::Counts;
 use counts::Section;
 use counts::count_at;
-use counts::count_inner;
 use counts::count_plain;
 use counts::no_counts;
 use counts::own_counts;
 use counts::plus;
 use counts::short_counts;
+use entries::put_link;
+use entries::put_list;
+use entries::put_node;
 use leaves::COUNT_SIZE;
 use leaves::limits::MAX_LEVELS;
 use leaves::refusals::BUFFER_SHORT;
-use steps::HEAD_SIZE;
-use steps::LONG_BLANK;
-use reader::Judgement;
 use payloads::first::First;
 use payloads::first::Kind;
 use payloads::first::PACKED;
 use payloads::first::PACKED_MAPS;
 use payloads::first::PRIMITIVES;
 use payloads::first::SHORT_BLANKS;
+use reader::Judgement;
+use steps::HEAD_SIZE;
+use steps::LONG_BLANK;
 use tables::ARRAY;
-use tables::FUNCTION;
 use tables::LINK_SIZE;
 use tables::MAP;
 use tables::NAME_SIZE;
 use tables::NODE_SIZE;
-use tables::RECORD;
 use tables::SYMBOL;
 use tables::VARIABLE;
 ghost use mathlib.Core.Path.{_≡_};
 ghost use mathlib.Core.Bool.{false};
-ghost use Prim.Native.Nat.{_≤_, _<_, _+_, _-_};
+ghost use Prim.Native.Nat.{_≤_, _<_};
 ghost use lib.ListN.{length};
 ghost use mathlib.Core.List.{_++_};
-ghost use Rattle.meaning.specs.Rules.{_⇒_∣_};
 ghost use Rattle.meaning.specs.Limits.{maxLevels};
 ghost use Rattle.meaning.specs.Numbers.{twoBytes};
 ghost use Rattle.meaning.specs.Answers.{tableAnswer, bufferAfter};
@@ -48,191 +46,9 @@ ghost use Rattle.payloads.specs.declared.first.Kind.the-variants.{Array, Map};
 ghost use Rattle.payloads.specs.Payload.{shaped};
 ghost use Rattle.steps.specs.Steps.{firstAt};
 ghost use Rattle.steps.specs.Pass.{passItems, passShape};
-ghost use Rattle.counts.specs.Pieces.{none, plus, Few, textIn, kindNumber, nodeEntry, linkEntry, nameEntry, itemEntry, noItems, packedArray, packedMap, ownBytes, listPiece, shortPiece, symbolPiece, pieces, Linked, tableSize, sections};
-ghost use Rattle.way_back.specs.Puts.{hasEntries, bareEntry, FewAfter, FewOwn, itemsAt, Wrote, PutIs, PutItemsIs, Room};
-
-// The number of a kind in a table.
-fn kind_number(kind: Kind) -> u8
-    ensures { λ r. ⌜ r ≡ kindNumber kind ⌝ }
-{
-    match kind {
-        Kind::Array => ARRAY,
-        Kind::Map => MAP,
-        Kind::Record => RECORD,
-        Kind::Function => FUNCTION,
-        Kind::Symbol => SYMBOL,
-        Kind::Variable => VARIABLE,
-    }
-}
-
-// What a section gets of a node. The place after it.
-fn put_node(section: Section, kind: u8, a: usize, b: usize, out: &mut [u8], to: usize) -> usize
-    requires { ⌜ (a < 65536) × (b < 65536) × Room (length (now out)) to (nodeEntry section kind a b) ⌝ }
-    ensures { λ r. ⌜ Wrote (now (out .entry)) (now (out .exit)) to (nodeEntry section kind a b) r ⌝ }
-{
-    match section {
-        Section::Nodes => {
-            tables::put_node(out, to, kind, a, b);
-            to + NODE_SIZE
-        }
-        Section::Links => to,
-        Section::Names => to,
-        Section::Text => to,
-    }
-}
-
-// A number, if something is so, or 0.
-fn number_if(so: bool, n: usize) -> usize
-    ensures is { λ r. ⌜ r ≡ (so ⇒ n ∣ λ _. 0) ⌝ }
-    ensures within { λ r. ⌜ r ≤ n ⌝ }
-{
-    if so {
-        return n;
-    }
-    0
-}
-
-// A link of a node of a kind: to a target, unless it is a Symbol's, with name k, if its kind has names. The place after it.
-fn put_link(kind: Kind, target: usize, k: usize, out: &mut [u8], to: usize) -> usize
-    requires { ⌜ (target < 65536) × (k < 65536) × Room (length (now out)) to (linkEntry kind target k) ⌝ }
-    ensures { λ r. ⌜ Wrote (now (out .entry)) (now (out .exit)) to (linkEntry kind target k) r ⌝ }
-{
-    let shaped = payloads::shaped_kind(kind);
-    let named = payloads::named_kind(kind);
-    put_two(out, to, number_if(shaped, target));
-    put_two(out, to + 2, number_if(named, k));
-    to + LINK_SIZE
-}
-
-// A name of a node of a kind, if it has names: where its text starts and how long it is. The place after it.
-fn put_name(kind: Kind, start: usize, size: usize, out: &mut [u8], to: usize) -> usize
-    requires { ⌜ (start < 65536) × (size < 65536) × Room (length (now out)) to (nameEntry kind start size) ⌝ }
-    ensures { λ r. ⌜ Wrote (now (out .entry)) (now (out .exit)) to (nameEntry kind start size) r ⌝ }
-{
-    if payloads::named_kind(kind) {
-        put_two(out, to, start);
-        put_two(out, to + 2, size);
-        return to + NAME_SIZE;
-    }
-    to
-}
-
-// What a section gets of an item of a node's list, where w are the bytes of its name. The place after it.
-fn put_item(
-    section: Section,
-    kind: Kind,
-    target: usize,
-    k: usize,
-    start: usize,
-    w: &[u8],
-    out: &mut [u8],
-    to: usize,
-) -> usize
-    requires { ⌜ (target < 65536) × (k < 65536) × (start < 65536) × (length (now w) < 65536) × Room (length (now out)) to (itemEntry section kind target k start (textIn (now w))) ⌝ }
-    ensures { λ r. ⌜ Wrote (now (out .entry)) (now (out .exit)) to (itemEntry section kind target k start (textIn (now (w .entry)))) r ⌝ }
-{
-    let from = counts::text_from(w);
-    let size = w.len() - from;
-    match section {
-        Section::Nodes => to,
-        Section::Links => put_link(kind, target, k, out, to),
-        Section::Names => put_name(kind, start, size, out, to),
-        Section::Text => {
-            put_part(out, to, w, from, w.len());
-            to + size
-        }
-    }
-}
-
-// The number before, or 0.
-fn before(n: usize) -> usize
-    ensures { λ r. ⌜ r ≡ n - 1 ⌝ }
-{
-    if n == 0 {
-        return 0;
-    }
-    n - 1
-}
-
-// Whether a section has entries for the items of a list of a kind.
-fn has_entries(section: Section, kind: Kind) -> bool
-    ensures { λ r. ⌜ r ≡ hasEntries section kind ⌝ }
-{
-    match section {
-        Section::Nodes => false,
-        Section::Links => true,
-        Section::Names => payloads::named_kind(kind),
-        Section::Text => payloads::named_kind(kind),
-    }
-}
-
-// The entries that a list's node has for its items. So many entries are there before the list, and so many after its shapes. The place after them.
-fn put_own(
-    section: Section,
-    s: &[u8],
-    from: usize,
-    left: usize,
-    kind: Kind,
-    count: usize,
-    base: Counts,
-    after: Counts,
-    out: &mut [u8],
-    first: usize,
-) -> usize
-    requires { ⌜ (from ≤ length (now s)) × (length (now s) < 65536) × (left ≤ maxLevels) × (count ≤ 16384) × FewOwn base after (itemsAt left kind count (now s) from .made) × Room (length (now out)) first (itemsAt left kind count (now s) from .made .own section kind base after) ⌝ }
-    ensures { λ r. ⌜ Wrote (now (out .entry)) (now (out .exit)) first (itemsAt left kind count (now (s .entry)) from .made .own section kind base after) r ⌝ }
-{
-    if !has_entries(section, kind) {
-        return first;
-    }
-    let mut at = from;
-    let mut to = first;
-    let mut nodes = 0;
-    let mut text = 0;
-    let mut k = 0;
-    let mut due = count;
-    while 0 < due {
-        due -= 1;
-        let start = steps::past_name(s, at, kind);
-        let part = count_inner(s, start, left, kind);
-        nodes += part.counts.nodes;
-        let w = &s[at..start];
-        to = put_item(
-            section,
-            kind,
-            before(base.nodes + nodes),
-            after.names + k,
-            after.text + text,
-            w,
-            out,
-            to,
-        );
-        text += counts::text_size(w);
-        k += 1;
-        at = part.next;
-    }
-    to
-}
-
-// What a section gets of a list's node: the entries for its items, and the node itself. The place after them.
-fn put_list(
-    section: Section,
-    s: &[u8],
-    from: usize,
-    left: usize,
-    kind: Kind,
-    count: usize,
-    base: Counts,
-    after: Counts,
-    out: &mut [u8],
-    to: usize,
-) -> usize
-    requires { ⌜ (from ≤ length (now s)) × (length (now s) < 65536) × (left ≤ maxLevels) × (count ≤ 16384) × (after ≡ plus base (itemsAt left kind count (now s) from .made .counts)) × (after .links < 65536) × FewOwn base after (itemsAt left kind count (now s) from .made) × Room (length (now out)) to (ownBytes section kind (itemsAt left kind count (now s) from .made) base) ⌝ }
-    ensures { λ r. ⌜ Wrote (now (out .entry)) (now (out .exit)) to (ownBytes section kind (itemsAt left kind count (now (s .entry)) from .made) base) r ⌝ }
-{
-    let end = put_own(section, s, from, left, kind, count, base, after, out, to);
-    put_node(section, kind_number(kind), after.links, count, out, end)
-}
+ghost use Rattle.counts.specs.Pieces.{none, plus, Few, noItems, packedArray, packedMap, listPiece, shortPiece, symbolPiece, pieces, Linked, tableSize, sections};
+ghost use Rattle.entries.specs.Entries.{Wrote, Room};
+ghost use Rattle.way_back.specs.Puts.{bareEntry, FewAfter, PutIs, PutItemsIs};
 
 // A link without a name. The place after it.
 fn put_bare(section: Section, target: usize, out: &mut [u8], to: usize) -> usize

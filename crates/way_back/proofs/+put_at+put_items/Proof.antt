@@ -29,7 +29,7 @@ use Rattle.counts.proofs.own_counts.Reads as own-counts-reads
 use Rattle.counts.proofs.plus.Reads as plus-reads
 use Rattle.counts.proofs.short_counts.Reads as short-counts-reads
 use Rattle.counts.proofs.text_size.Reads as text-size-reads
-use Rattle.way_back.proofs.put_list.Reads as put-list-reads
+use Rattle.entries.proofs.put_list.Reads as put-list-reads
 use Rattle.way_back.proofs.put_plain.Reads as put-plain-reads
 use Rattle.way_back.proofs.put_short.Reads as put-short-reads
 use Rattle.way_back.proofs.+put_at+put_items.{statement}

@@ -3,8 +3,8 @@
 use borrow.Author.Needs.{needs}
 use native.Mathlib.Omega.{arith}
 use lib.ListN.{length-append}
-use Rattle.way_back.proofs.Wrote.{wrote-after}
-use Rattle.way_back.proofs.Entries.{array-bytes}
+use Rattle.entries.proofs.Wrote.{wrote-after}
+use Rattle.way_back.proofs.Packed.{array-bytes}
 use Rattle.way_back.proofs.put_array.Statement.{statement}
 use Rattle.way_back.proofs.put_array.Tie as tie
 

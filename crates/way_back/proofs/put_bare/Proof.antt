@@ -2,7 +2,7 @@
 -- Assumes nothing.
 use borrow.Author.Needs.{needs}
 use native.Mathlib.Omega.{arith}
-use Rattle.way_back.proofs.Wrote.{wrote-none}
+use Rattle.entries.proofs.Wrote.{wrote-none}
 use Rattle.way_back.proofs.put_bare.Statement.{statement}
 use Rattle.way_back.proofs.put_bare.Tie as tie
 

@@ -6,7 +6,7 @@ use mathlib.Core.Path.{sym, _∙_}
 use lib.ListN.{length-take, length-drop}
 use Rattle.steps.proofs.Passing.{blank-cut, shape-blank}
 use Rattle.counts.specs.Pieces.{pieces}
-use Rattle.way_back.proofs.Wrote.{wrote-none}
+use Rattle.entries.proofs.Wrote.{wrote-none}
 use Rattle.way_back.proofs.Texts.{symbol-here}
 use Rattle.way_back.proofs.put_plain.Statement.{statement}
 use Rattle.way_back.proofs.put_plain.Tie as tie

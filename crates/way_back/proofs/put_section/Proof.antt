@@ -5,7 +5,7 @@ use borrow.Author.Needs.{needs}
 use native.Mathlib.Omega.{arith}
 use mathlib.Core.Path.{refl}
 use Rattle.meaning.specs.Numbers.{twoBytes}
-use Rattle.way_back.proofs.Wrote.{wrote-after}
+use Rattle.entries.proofs.Wrote.{wrote-after}
 use Rattle.way_back.proofs.put_section.Statement.{statement}
 use Rattle.way_back.proofs.put_section.Tie as tie
 

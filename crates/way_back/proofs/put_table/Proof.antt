@@ -3,7 +3,7 @@
 use borrow.Author.Needs.{needs}
 use native.Mathlib.Omega.{arith}
 use lib.ListN.{length-append}
-use Rattle.way_back.proofs.Wrote.{wrote-after}
+use Rattle.entries.proofs.Wrote.{wrote-after}
 use Rattle.way_back.proofs.put_table.Statement.{statement}
 use Rattle.way_back.proofs.put_table.Tie as tie
 

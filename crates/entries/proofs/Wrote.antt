@@ -1,4 +1,4 @@
--- Laws of what was written into a lent buffer, and of the place after it (specs/Puts.antt, `Wrote`).
+-- Laws of what was written into a lent buffer, and of the place after it (specs/Entries.antt, `Wrote`).
 --     wrote-none     where nothing is written, the buffer and the place stay
 --     wrote-after    what is written right after joins what was written
 -- Assumes nothing.
@@ -8,7 +8,7 @@ use Prim.Native.Nat.{ℕ}
 use native.Mathlib.Omega.{arith}
 use lib.ListN.{length, length-append}
 use Rattle.buffers.proofs.Written.{written-none, written-after}
-use Rattle.way_back.specs.Puts.{Wrote, Room}
+use Rattle.entries.specs.Entries.{Wrote, Room}
 
 -- Where nothing is written, the buffer and the place stay.
 pub wrote-none : (d : List ℕ) (to : ℕ) → Wrote d d to [] to

@@ -10,11 +10,11 @@ use mathlib.Core.Path.{refl, sym, _∙_}
 use lib.ListN.{length}
 use Rattle.steps.proofs.Passing.{items-none}
 use Rattle.counts.specs.Pieces.{noItems}
-use Rattle.way_back.proofs.Wrote.{wrote-none}
-use Rattle.way_back.proofs.Entries.{no-own}
-use Rattle.way_back.proofs.Owning.{Turn, few-inner, few-sums, item-fits, turn-on}
-use Rattle.way_back.proofs.put_own.Statement.{statement}
-use Rattle.way_back.proofs.put_own.Tie as tie
+use Rattle.entries.proofs.Wrote.{wrote-none}
+use Rattle.entries.proofs.Entries.{no-own}
+use Rattle.entries.proofs.Owning.{Turn, few-inner, few-sums, item-fits, turn-on}
+use Rattle.entries.proofs.put_own.Statement.{statement}
+use Rattle.entries.proofs.put_own.Tie as tie
 
 abbrev Inv-loop : tie.InvT-loop
 Inv-loop section s from left kind count base after out₀ first at₀ to₀ nodes₀ text₀ k₀ due₀ out at to nodes text k due =

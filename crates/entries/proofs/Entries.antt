@@ -2,35 +2,29 @@
 --     pair-wrote     two numbers, written one after the other
 --     text-length    how long a name's text is
 --     text-wrote     the bytes of a name from its text's start on are its text
---     item-bare      the item of a kind without names is a bare link
 --     no-entry, no-own     a section that has no entries for the items of a list of a kind gets nothing of them
---     array-bytes, map-bytes     an Array and a Map of primitives, entry by entry
 --     own-bytes      a list's node after the entries for its items
 -- Assumes nothing.
 use mathlib.Core.Path.{_≡_, refl}
-use mathlib.Core.Bool.{true, false}
-use mathlib.Core.List.{List, [], _++_, append-assoc}
+use mathlib.Core.Bool.{false}
+use mathlib.Core.List.{List, [], _++_}
 use Prim.Native.Nat.{ℕ, zero, suc, _+_, _-_, _≤_}
-use native.Mathlib.Nat.{add-zero}
 use native.Mathlib.Omega.{arith}
 use lib.ListN.{length, length-drop}
 use lib.Seq.{slice, slice-empty, take-length}
 use Rattle.meaning.specs.Numbers.{twoBytes}
-use Rattle.meaning.specs.Table.{arrayKind, mapKind}
 use Rattle.buffers.specs.Written.{written}
-use Rattle.payloads.specs.Payload.{named, shaped}
 use Rattle.payloads.specs.declared.first.Kind.{Kind}
-use Rattle.payloads.specs.declared.first.Kind.the-variants.{Array, Map}
 use Rattle.steps.specs.Steps.{pastName}
 use Rattle.steps.specs.Pass.{Passer, passItems}
 use Rattle.counts.specs.declared.Counts.{Counts}
 use Rattle.counts.specs.declared.Section.{Section}
 use Rattle.counts.specs.declared.Section.the-variants.{Nodes, Links, Names, Text}
-use Rattle.counts.specs.Pieces.{plus, textFrom, textIn, kindNumber, nodeEntry, itemEntry, Piece, Gathered, noItems, ownBytes, listPiece, packedArray, packedMap, pieces, inner}
+use Rattle.counts.specs.Pieces.{plus, textFrom, textIn, kindNumber, nodeEntry, itemEntry, Piece, Gathered, noItems, ownBytes, pieces, inner}
 use Rattle.counts.proofs.Grows.{items-count}
 use Rattle.counts.proofs.Texted.{text-none}
-use Rattle.way_back.specs.Puts.{hasEntries, bareEntry, Wrote, itemsAt}
-use Rattle.way_back.proofs.Wrote.{wrote-after}
+use Rattle.entries.specs.Entries.{hasEntries, Wrote, itemsAt}
+use Rattle.entries.proofs.Wrote.{wrote-after}
 
 -- Two numbers, written one after the other.
 pub pair-wrote : (d e f : List ℕ) (to m n : ℕ) → to + 4 ≤ length d → e ≡ written d to (twoBytes m) → f ≡ written e (to + 2) (twoBytes n)
@@ -47,14 +41,6 @@ text-length w n e = rw (← e, length-drop)
 -- The bytes of a name from its text's start on are its text.
 pub text-wrote : (d e w : List ℕ) (to n : ℕ) → n ≡ textFrom w → e ≡ written d to (slice n (length w) w) → Wrote d e to (textIn w) (to + (length w - n))
 text-wrote d e w to n h p = record { after = rw (text-length w n h); wrote = rw (← h) (rw take-length at p) }
-
--- The item of a kind without names is a bare link.
-item-bare : (section : Section) (kind : Kind) (m n k start : ℕ) → shaped kind ≡ true → named kind ≡ false → m ≡ n
-    → itemEntry section kind m k start (textIn []) ≡ bareEntry section n
-item-bare Nodes kind m n k start p q e = refl
-item-bare Links kind m n k start p q e = rw (p, q, e)
-item-bare Names kind m n k start p q e = rw q
-item-bare Text kind m n k start p q e = text-none
 
 -- Where a section has no entries for the items of a list of a kind, it gets nothing of an item,
 no-entry : (section : Section) (kind : Kind) (m k start : ℕ) (s : List ℕ) (at : ℕ) → hasEntries section kind ≡ false
@@ -77,19 +63,6 @@ no-more section kind base after inner s h (suc due) at a e =
 pub no-own : (section : Section) (kind : Kind) (base after : Counts) (left count : ℕ) (s : List ℕ) (from : ℕ) → hasEntries section kind ≡ false
     → itemsAt left kind count s from .made .own section kind base after ≡ []
 no-own section kind base after left count s from h = no-more section kind base after (inner left kind) s h count from noItems refl
-
-module _ (section : Section) (base : Counts) where
-  -- An Array of a primitive is the primitive's node, a link to it, and the Array's node.
-  pub array-bytes : (p : ℕ) → listPiece Array (packedArray p) .bytes section base
-      ≡ nodeEntry section p 0 0 ++ (bareEntry section (base .nodes) ++ nodeEntry section arrayKind (base .links) 1)
-  array-bytes p = rw (item-bare section Array (base .nodes + 1 - 1) (base .nodes) _ _ refl refl (omega arith), add-zero (base .links))
-
-  -- A Map of two primitives is their nodes, a link to each, and the Map's node.
-  pub map-bytes : (p q : ℕ) → listPiece Map (packedMap p q) .bytes section base
-      ≡ nodeEntry section p 0 0 ++ (nodeEntry section q 0 0 ++ (bareEntry section (base .nodes) ++ (bareEntry section (base .nodes + 1) ++ nodeEntry section mapKind (base .links) 2)))
-  map-bytes p q =
-      rw (item-bare section Map (base .nodes + 1 - 1) (base .nodes) _ _ refl refl (omega arith), item-bare section Map (base .nodes + 2 - 1) (base .nodes + 1) _ _ refl refl (omega arith), add-zero (base .links))
-      (simp append-assoc)
 
 -- A list's node stands after the entries for its items, of which there are as many as the list has.
 pub own-bytes : (section : Section) (left : ℕ) (kind : Kind) (count : ℕ) (s : List ℕ) (from : ℕ) (base after : Counts) {number : ℕ}

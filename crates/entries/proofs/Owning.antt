@@ -21,8 +21,8 @@ use Rattle.counts.specs.Pieces.{Few, Gathered, textIn, itemEntry, withItem, pie
 use Rattle.counts.specs.Counts.{CountedIs}
 use Rattle.counts.proofs.Grows.{below-few, grows, own-grow}
 use Rattle.counts.proofs.Counting.{part-is}
-use Rattle.way_back.specs.Puts.{FewOwn, itemsAt, Wrote, Room}
-use Rattle.way_back.proofs.Wrote.{wrote-after}
+use Rattle.entries.specs.Entries.{FewOwn, itemsAt, Wrote, Room}
+use Rattle.entries.proofs.Wrote.{wrote-after}
 
 -- what the loop keeps, of the buffer d that is now e: the items so far are a
 pub record Turn (section : Section) (s : List ℕ) (from left : ℕ) (kind : Kind) (count : ℕ) (base after : Counts) (d : List ℕ) (first : ℕ) (e : List ℕ) (at to nodes text k due : ℕ) : Type 0 where

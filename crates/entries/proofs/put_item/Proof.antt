@@ -1,11 +1,11 @@
--- `way_back::put_item` meets its contract.
+-- `entries::put_item` meets its contract.
 -- Assumes nothing.
 use borrow.Author.Needs.{needs}
 use native.Mathlib.Omega.{arith}
-use Rattle.way_back.proofs.Wrote.{wrote-none}
-use Rattle.way_back.proofs.Entries.{text-length, text-wrote}
-use Rattle.way_back.proofs.put_item.Statement.{statement}
-use Rattle.way_back.proofs.put_item.Tie as tie
+use Rattle.entries.proofs.Wrote.{wrote-none}
+use Rattle.entries.proofs.Entries.{text-length, text-wrote}
+use Rattle.entries.proofs.put_item.Statement.{statement}
+use Rattle.entries.proofs.put_item.Tie as tie
 
 put-link-requires : tie.Need-put-link-requires
 put-link-requires c κs =

@@ -1,9 +1,9 @@
--- `way_back::put_link` meets its contract.
+-- `entries::put_link` meets its contract.
 -- Assumes nothing.
 use borrow.Author.Needs.{needs}
-use Rattle.way_back.proofs.Entries.{pair-wrote}
-use Rattle.way_back.proofs.put_link.Statement.{statement}
-use Rattle.way_back.proofs.put_link.Tie as tie
+use Rattle.entries.proofs.Entries.{pair-wrote}
+use Rattle.entries.proofs.put_link.Statement.{statement}
+use Rattle.entries.proofs.put_link.Tie as tie
 
 returns : tie.Need-returns
 returns c =

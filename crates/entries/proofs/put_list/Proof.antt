@@ -1,13 +1,13 @@
--- `way_back::put_list` meets its contract.
+-- `entries::put_list` meets its contract.
 -- Assumes nothing.
 use borrow.Author.Needs.{needs}
 use native.Mathlib.Omega.{arith}
 use mathlib.Core.Path.{refl}
 use lib.ListN.{length-append}
-use Rattle.way_back.proofs.Wrote.{wrote-after}
-use Rattle.way_back.proofs.Entries.{own-bytes}
-use Rattle.way_back.proofs.put_list.Statement.{statement}
-use Rattle.way_back.proofs.put_list.Tie as tie
+use Rattle.entries.proofs.Wrote.{wrote-after}
+use Rattle.entries.proofs.Entries.{own-bytes}
+use Rattle.entries.proofs.put_list.Statement.{statement}
+use Rattle.entries.proofs.put_list.Tie as tie
 
 put-own-requires : tie.Need-put-own-requires
 put-own-requires c κs =

@@ -1,12 +1,12 @@
--- `way_back::put_name` meets its contract.
+-- `entries::put_name` meets its contract.
 -- Assumes nothing.
 use borrow.Author.Needs.{needs}
 use native.Mathlib.Omega.{arith}
 use mathlib.Core.Path.{sym, _∙_}
-use Rattle.way_back.proofs.Wrote.{wrote-none}
-use Rattle.way_back.proofs.Entries.{pair-wrote}
-use Rattle.way_back.proofs.put_name.Statement.{statement}
-use Rattle.way_back.proofs.put_name.Tie as tie
+use Rattle.entries.proofs.Wrote.{wrote-none}
+use Rattle.entries.proofs.Entries.{pair-wrote}
+use Rattle.entries.proofs.put_name.Statement.{statement}
+use Rattle.entries.proofs.put_name.Tie as tie
 
 put-two-requires : tie.Need-put-two-requires
 put-two-requires c κs =

@@ -1,10 +1,10 @@
--- `way_back::put_node` meets its contract.
+-- `entries::put_node` meets its contract.
 -- Assumes nothing.
 use borrow.Author.Needs.{needs}
 use native.Mathlib.Omega.{arith}
-use Rattle.way_back.proofs.Wrote.{wrote-none}
-use Rattle.way_back.proofs.put_node.Statement.{statement}
-use Rattle.way_back.proofs.put_node.Tie as tie
+use Rattle.entries.proofs.Wrote.{wrote-none}
+use Rattle.entries.proofs.put_node.Statement.{statement}
+use Rattle.entries.proofs.put_node.Tie as tie
 
 put-node-requires : tie.Need-put-node-requires
 put-node-requires c κs =

@@ -1,0 +1,3 @@
+pub mod Wrote
+pub mod Entries
+pub mod Owning
