@@ -1,4 +1,4 @@
--- What a shape adds to a table, section by section, and the pass over an encoding that finds it (parts/specs/Pass.antt). Proved to be what the table
+-- What a shape adds to a table, section by section, and the pass over an encoding that finds it (steps/specs/Pass.antt). Proved to be what the table
 -- of the shape has (proofs/Grown.antt, proofs/Making.antt). No public contract cites it.
 use Prim.Native.Nat.{ℕ, zero, suc, _+_, _-_, _*_, _/_, _%_, _≤_, _<_}
 use mathlib.Core.List.{List, [], _++_}

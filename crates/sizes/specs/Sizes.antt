@@ -1,4 +1,4 @@
--- What a shape measures once its blanks are filled, and the pass over the bytes that finds it (parts/specs/Pass.antt). Contracts between our own
+-- What a shape measures once its blanks are filled, and the pass over the bytes that finds it (steps/specs/Pass.antt). Contracts between our own
 -- crates cite it, no public one does.
 use Prim.Native.Nat.{ℕ, _+_, _*_, _-_, _≤_, max}
 use mathlib.Core.Path.{_≡_}

@@ -1,4 +1,4 @@
--- The bytes of a shape whose blanks are filled, and the pass over the bytes that writes them (parts/specs/Pass.antt). Contracts between our own
+-- The bytes of a shape whose blanks are filled, and the pass over the bytes that writes them (steps/specs/Pass.antt). Contracts between our own
 -- crates cite it, no public one does.
 use Prim.Native.Nat.{ℕ, _+_, _*_, _-_, _≤_, _<_}
 use mathlib.Core.Path.{_≡_}
