@@ -1,11 +1,11 @@
 // How many nodes, links, names and bytes of text the table of a shape has, found by one pass over the accepted bytes.
 use leaves::Leb;
-use steps::HEAD_SIZE;
-use steps::LONG_BLANK;
 use payloads::first::First;
 use payloads::first::Kind;
 use payloads::first::PACKED;
 use payloads::first::PACKED_MAPS;
+use steps::HEAD_SIZE;
+use steps::LONG_BLANK;
 ghost use mathlib.Core.Path.{_≡_};
 ghost use mathlib.Core.Bool.{false};
 ghost use Prim.Native.Nat.{_≤_, _<_, _+_};

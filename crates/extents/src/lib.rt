@@ -2,9 +2,9 @@
 // more bytes than any board has (01-scope.md, "Node table"). Numbers stop growing once they are over their limits.
 use leaves::limits::MAX_BYTES;
 use leaves::limits::MAX_LEVELS;
+use payloads::first::SHORT_BLANKS;
 use steps::HEAD_SIZE;
 use steps::LONG_BLANK;
-use payloads::first::SHORT_BLANKS;
 use tables::ARRAY;
 use tables::FUNCTION;
 use tables::Link;

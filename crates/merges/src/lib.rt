@@ -20,7 +20,14 @@ pub struct Turn {
 }
 
 // The entry that comes next, after i of the first and j of the second. Where both have the blank, the first's counts.
-pub fn turn_of(first: &[u8], index: &[u16], second: &[u8], other: &[u16], i: usize, j: usize) -> Turn
+pub fn turn_of(
+    first: &[u8],
+    index: &[u16],
+    second: &[u8],
+    other: &[u16],
+    i: usize,
+    j: usize,
+) -> Turn
     requires { ⌜ Ready (now first) (now index) × Ready (now second) (now other) × (i ≤ length (sheetIn (now first))) × (j ≤ length (sheetIn (now second))) × (i + j < length (sheetIn (now first)) + length (sheetIn (now second))) ⌝ }
     ensures { λ r. ⌜ TurnIs (sheetIn (now (first .entry))) (sheetIn (now (second .entry))) i j r ⌝ }
 {

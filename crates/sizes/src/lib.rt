@@ -1,13 +1,13 @@
 // What a shape measures once its blanks are filled (01-scope.md, "Sheets"): found by one pass over the accepted bytes, before anything is written.
 use leaves::limits::MAX_LEVELS;
-use steps::HEAD_SIZE;
-use steps::LONG_BLANK;
 use payloads::first::First;
 use payloads::first::Kind;
 use payloads::first::PAST_PRIMITIVES;
 use payloads::first::PRIMITIVES;
 use payloads::first::SHORT_BLANKS;
 use sheets::Entry;
+use steps::HEAD_SIZE;
+use steps::LONG_BLANK;
 ghost use mathlib.Core.Path.{_≡_};
 ghost use mathlib.Core.Bool.{false, _&&_};
 ghost use Prim.Native.Nat.{_≤_, _<_, _+_, max};
