@@ -31,60 +31,32 @@ use Rattle.meaning.proofs.Bounds.{farthest, Small}
 use Rattle.meaning.proofs.TableAnswers.{write-small}
 use Rattle.meaning.proofs.Parts.{children-few, names-few, child-inside, packed-number, name-inside}
 use Rattle.buffers.specs.Said.{madeSaid}
-use Rattle.reader.specs.declared.Judgement.{Judgement}
-use Rattle.reader.specs.declared.Judgement.the-variants.{Accepted, Refused}
 use Rattle.reader.specs.Said.{said}
-use Rattle.parts.specs.declared.FoundChild.{FoundChild}
-use Rattle.parts.specs.declared.FoundChild.the-variants as child
-use Rattle.parts.specs.declared.FoundName.{FoundName}
-use Rattle.parts.specs.declared.FoundName.the-variants as name
 use Rattle.parts.specs.Said.{toldChild, childSaid, nameSaid}
-use Rattle.sheets.specs.declared.Checked.{Checked}
-use Rattle.sheets.specs.declared.Checked.the-variants as sheet
 use Rattle.sheets.specs.Said.{checked}
 use Rattle.editor.specs.declared.Node.{Node}
 use Rattle.editor.specs.Records.{sameTable, recordsAnswer, recordsOutcome}
-use Rattle.board.specs.declared.Answer.{Answer}
-use Rattle.board.specs.Answers.{answered, refused, readAnswer, childAnswered, childAnswer, nameAnswer, sheetAnswer, MadeFits}
+use Rattle.answers.specs.declared.Answer.{Answer}
+use Rattle.answers.specs.Answers.{refused, Fits, readPut, childPut, namePut, sheetPut, madePut}
+use Rattle.board.specs.Answers.{readAnswer, childAnswered, childAnswer, nameAnswer, sheetAnswer}
 
 -- an answer that fits, and is the one to be given
 pub record Given (a b : Answer) : Type 0 where
-  pub number : a .number < 4294967296
-  pub place : a .place < 4294967296
-  pub length : a .length < 4294967296
-  pub extra : a .extra < 4294967296
+  pub fits : Fits a
   pub is : a ≡ b
 
 -- An answer fits whose number is one of the paper's, and whose others are no larger than the largest place.
 given : (a : Answer) → a .number ≤ noSuchPart → a .place ≤ farthest → a .length ≤ farthest → a .extra ≤ farthest → Given a a
-given a n p l e = record { number = omega arith; place = omega arith; length = omega arith; extra = omega arith; is = refl }
+given a n p l e = record { fits = (omega arith, omega arith, omega arith, omega arith); is = refl }
 
 -- So does a refusal.
 given-refusal : (number place : ℕ) → number ≤ noSuchPart → place ≤ farthest → Given (refused number place) (refused number place)
 given-refusal number place n p = given (refused number place) n p (omega arith) (omega arith)
 
--- what the calls below say, as the exported calls put it
-abbrev readPut : Judgement → Answer
-readPut (Accepted length depth) = answered 0 length depth
-readPut (Refused number place) = refused number place
-
-abbrev childPut : FoundChild → Answer
-childPut (child.Part place length) = answered place length 0
-childPut (child.Primitive number) = answered number 0 1
-childPut (child.Refused number place) = refused number place
-
-abbrev namePut : FoundName → Answer
-namePut (name.Text place length) = answered place length 0
-namePut (name.Refused number place) = refused number place
-
-abbrev sheetPut : Checked → Answer
-sheetPut (sheet.Sound entries bytes) = answered 0 bytes entries
-sheetPut (sheet.Broken place) = refused sheetBroken place
-
 -- What a call that writes says, small as it is, fits.
-pub made-fits : (a : Meant.Answer) → Small a → MadeFits (madeSaid a)
-made-fits (Meant.answered w) h = omega arith
-made-fits (Meant.refused number place) h = (omega arith, omega arith)
+pub made-fits : (a : Meant.Answer) → Small a → Fits (madePut (madeSaid a))
+made-fits (Meant.answered w) h = (omega arith, omega arith, omega arith, omega arith)
+made-fits (Meant.refused number place) h = (omega arith, omega arith, omega arith, omega arith)
 
 -- What the writer of records answers is small: it refuses at once, or answers as the writer of tables does.
 records-small : (nodes : List Node) (rest : List ℕ) (room : ℕ) → Small (recordsAnswer nodes rest room)
@@ -95,7 +67,7 @@ records-small nodes rest room =
     write-small (sameTable nodes rest) room
 
 -- So what it says fits.
-pub records-fit : (nodes : List Node) (rest buffer : List ℕ) → MadeFits (recordsOutcome nodes rest buffer .0)
+pub records-fit : (nodes : List Node) (rest buffer : List ℕ) → Fits (madePut (recordsOutcome nodes rest buffer .0))
 unfolding recordsOutcome
 records-fit nodes rest buffer = made-fits (recordsAnswer nodes rest (length buffer)) (records-small nodes rest (length buffer))
 

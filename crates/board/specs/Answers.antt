@@ -1,6 +1,5 @@
--- What the board's calls say, in four numbers: number 0 is an answer, and a field that a call does not use is 0; otherwise number and place are
--- the paper's, and length and extra are 0. To be believed.
-use Prim.Native.Nat.{ℕ, _<_}
+-- What each of the board's calls says of its inputs, in four numbers (answers/specs/Answers.antt). To be believed.
+use Prim.Native.Nat.{ℕ}
 use mathlib.Core.List.{List}
 use lib.Dec.{ltb}
 use lib.ListN.{length}
@@ -12,18 +11,11 @@ use Rattle.meaning.specs.Reading.{Reading, got, bad}
 use Rattle.meaning.specs.Sheet.{Sheet, encodings}
 use Rattle.meaning.specs.Answers as Meant
 use Rattle.meaning.specs.Parts.{Child, part, packedPrim, children, childOf, names, nameText, namePlace}
-use Rattle.buffers.specs.declared.Made.{Made}
-use Rattle.buffers.specs.declared.Made.the-variants.{Written, Refused}
 use Rattle.buffers.specs.Said.{madeSaid}
 use Rattle.editor.specs.declared.Node.{Node}
 use Rattle.editor.specs.Records.{recordsOutcome}
-use Rattle.board.specs.declared.Answer.{Answer}
-
-abbrev pub answered : ℕ → ℕ → ℕ → Answer
-answered place length extra = record { number = 0; place = place; length = length; extra = extra }
-
-abbrev pub refused : ℕ → ℕ → Answer
-refused number place = record { number = number; place = place; length = 0; extra = 0 }
+use Rattle.answers.specs.declared.Answer.{Answer}
+use Rattle.answers.specs.Answers.{answered, refused, madePut}
 
 -- `shiulbart_read`: the shape's length and depth, or the refusal
 abbrev pub readAnswer : Reading Shape → Answer
@@ -53,16 +45,6 @@ nameAnswer (got s left) k =
 abbrev pub sheetAnswer : Reading Sheet → Answer
 sheetAnswer (got σ left) = answered 0 (length (encodings σ)) (length σ)
 sheetAnswer (bad number place) = refused number place
-
--- what a call that writes says, in four numbers: how many bytes were written, or the refusal
-abbrev pub madePut : Made → Answer
-madePut (Written length) = answered 0 length 0
-madePut (Refused number place) = refused number place
-
--- its numbers fit 32 bits
-abbrev pub MadeFits : Made → Type 0
-MadeFits (Written length) = length < 4294967296
-MadeFits (Refused number place) = (number < 4294967296) × (place < 4294967296)
 
 -- `shiulbart_fill`, `shiulbart_join`, `shiulbart_write` and `shiulbart_table`
 abbrev pub madeAnswer : Meant.Answer → Answer

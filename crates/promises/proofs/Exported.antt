@@ -21,7 +21,7 @@ use Rattle.meaning.specs.Answers as Meant
 use Rattle.meaning.proofs.Rules.{both}
 use Rattle.meaning.proofs.Answers.{fill-fits, join-fits, buffer-rest, buffer-kept, buffer-length}
 use Rattle.meaning.proofs.TableAnswers.{write-fits, table-fits}
-use Rattle.board.specs.declared.Answer.{Answer}
+use Rattle.answers.specs.declared.Answer.{Answer}
 use Rattle.board.specs.Answers.{readAnswer, childAnswered, childAnswer, nameAnswer, sheetAnswer, madeAnswer}
 use Rattle.board.proofs.shiulbart_read.Reads as board-read
 use Rattle.board.proofs.shiulbart_child.Reads as board-child

@@ -12,7 +12,7 @@ use Rattle.reader.specs.declared.Judgement.{Judgement}
 use Rattle.parts.specs.declared.FoundChild.{FoundChild}
 use Rattle.parts.specs.declared.FoundName.{FoundName}
 use Rattle.sheets.specs.declared.Checked.{Checked}
-use Rattle.board.specs.declared.Answer.{Answer}
+use Rattle.answers.specs.declared.Answer.{Answer}
 use Rattle.board.proofs.shiulbart_read.Reads as board-read
 use Rattle.board.proofs.shiulbart_child.Reads as board-child
 use Rattle.board.proofs.shiulbart_name.Reads as board-name

@@ -28,7 +28,7 @@ use Rattle.buffers.specs.declared.Made.{Made}
 use Rattle.buffers.specs.declared.Made.the-variants.{Written, Refused}
 use Rattle.editor.specs.declared.Node.{Node}
 use Rattle.editor.specs.Records.{sameTable, recordsAnswer, recordsOutcome}
-use Rattle.board.specs.declared.Answer.{Answer}
+use Rattle.answers.specs.declared.Answer.{Answer}
 use Rattle.board.specs.Answers as Board
 use Rattle.board.specs.Answers.{madeAnswer}
 use Rattle.promises.specs.Order.{RecordsRefuses, no-records, many-records, same-bad, FrontOnly, Tells, Keeps}

@@ -17,7 +17,7 @@ use Rattle.meaning.specs.Table.{Table, tableBytes, tableShape, tableOf}
 use Rattle.meaning.specs.TableReading.{readTable}
 use Rattle.editor.specs.declared.Node.{Node}
 use Rattle.editor.specs.Records.{sameTable}
-use Rattle.board.specs.declared.Answer.{Answer}
+use Rattle.answers.specs.declared.Answer.{Answer}
 
 -- 1 to 8
 abbrev pub readNumbers : List ℕ

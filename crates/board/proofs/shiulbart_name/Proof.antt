@@ -2,43 +2,21 @@
 -- Assumes nothing.
 use borrow.Author.Needs.{needs}
 use native.Mathlib.Omega.{arith}
-use mathlib.Core.Path.{_∙_}
+use mathlib.Core.Path.{_∙_, ap}
+use Rattle.answers.specs.Answers.{namePut}
 use Rattle.board.proofs.Small.{exported-name}
 use Rattle.board.proofs.shiulbart_name.Statement.{statement}
 use Rattle.board.proofs.shiulbart_name.Tie as tie
 
-refusal-of-requires : tie.Need-refusal-of-requires
-refusal-of-requires c κs =
-    let b = c .before in let r = b .before .before in let a = r .before .before in
-    let e = rw (← r .name .ensures, b .number .given .1) at (exported-name (a .args .bytes .now) (λ i. omega (arith, r .before .shared-slice-known .given i)) (a .args .k)) in
-    search needs
-
-answer-of-requires : tie.Need-answer-of-requires
-answer-of-requires c κs =
-    let b = c .before in let r = b .before .before in let a = r .before .before in
-    let e = rw (← r .name .ensures, b .place .given .1) at (exported-name (a .args .bytes .now) (λ i. omega (arith, r .before .shared-slice-known .given i)) (a .args .k)) in
-    search needs
+name-answer-requires : tie.Need-name-answer-requires
+name-answer-requires c κs =
+    let k = c .before in
+    rw (c .name .ensures) (exported-name (k .before .args .bytes .now) (λ i. omega (arith, k .shared-slice-known .given i)) (k .before .args .k) .fits)
 
 returns : tie.Need-returns
 returns c =
-    let b = c .before .before in let r = b .before .before in let a = r .before .before in
-    let e = rw (← r .name .ensures, b .number .given .1) at (exported-name (a .args .bytes .now) (λ i. omega (arith, r .before .shared-slice-known .given i)) (a .args .k)) in
-    c .refusal-of .ensures ∙ e .is
-
-returns-2 : tie.Need-returns-2
-returns-2 c =
-    let b = c .before .before in let r = b .before .before in let a = r .before .before in
-    let e = rw (← r .name .ensures, b .place .given .1) at (exported-name (a .args .bytes .now) (λ i. omega (arith, r .before .shared-slice-known .given i)) (a .args .k)) in
-    c .answer-of .ensures ∙ e .is
+    let m = c .before in let k = m .before in
+    c .name-answer .ensures ∙ ap namePut (m .name .ensures) ∙ exported-name (k .before .args .bytes .now) (λ i. omega (arith, k .shared-slice-known .given i)) (k .before .args .k) .is
 
 pub shiulbart-name-spec : {M : Type 1} → statement M
-shiulbart-name-spec =
-    tie.close
-    (tie.spec
-    (λ c κs. search needs)
-    (λ c. search needs)
-    refusal-of-requires
-    (λ c. search needs)
-    answer-of-requires
-    returns
-    returns-2)
+shiulbart-name-spec = tie.close (tie.spec (λ c κs. search needs) name-answer-requires returns)

@@ -2,43 +2,21 @@
 -- Assumes nothing.
 use borrow.Author.Needs.{needs}
 use native.Mathlib.Omega.{arith}
-use mathlib.Core.Path.{_∙_}
+use mathlib.Core.Path.{_∙_, ap}
+use Rattle.answers.specs.Answers.{readPut}
 use Rattle.board.proofs.Small.{exported}
 use Rattle.board.proofs.shiulbart_read.Statement.{statement}
 use Rattle.board.proofs.shiulbart_read.Tie as tie
 
-refusal-of-requires : tie.Need-refusal-of-requires
-refusal-of-requires c κs =
-    let b = c .before in let r = b .before .before in let k = r .before in
-    let e = rw (← r .read .ensures, b .number .given .1) at (exported (k .before .args .bytes .now) (λ i. omega (arith, k .shared-slice-known .given i))) in
-    search needs
-
-answer-of-requires : tie.Need-answer-of-requires
-answer-of-requires c κs =
-    let b = c .before in let r = b .before .before in let k = r .before in
-    let e = rw (← r .read .ensures, b .length .given .1) at (exported (k .before .args .bytes .now) (λ i. omega (arith, k .shared-slice-known .given i))) in
-    search needs
+read-answer-requires : tie.Need-read-answer-requires
+read-answer-requires c κs =
+    let k = c .before in
+    rw (c .read .ensures) (exported (k .before .args .bytes .now) (λ i. omega (arith, k .shared-slice-known .given i)) .fits)
 
 returns : tie.Need-returns
 returns c =
-    let b = c .before .before in let r = b .before .before in let k = r .before in
-    let e = rw (← r .read .ensures, b .number .given .1) at (exported (k .before .args .bytes .now) (λ i. omega (arith, k .shared-slice-known .given i))) in
-    c .refusal-of .ensures ∙ e .is
-
-returns-2 : tie.Need-returns-2
-returns-2 c =
-    let b = c .before .before in let r = b .before .before in let k = r .before in
-    let e = rw (← r .read .ensures, b .length .given .1) at (exported (k .before .args .bytes .now) (λ i. omega (arith, k .shared-slice-known .given i))) in
-    c .answer-of .ensures ∙ e .is
+    let m = c .before in let k = m .before in
+    c .read-answer .ensures ∙ ap readPut (m .read .ensures) ∙ exported (k .before .args .bytes .now) (λ i. omega (arith, k .shared-slice-known .given i)) .is
 
 pub shiulbart-read-spec : {M : Type 1} → statement M
-shiulbart-read-spec =
-    tie.close
-    (tie.spec
-    (λ c κs. search needs)
-    (λ c. search needs)
-    refusal-of-requires
-    (λ c. search needs)
-    answer-of-requires
-    returns
-    returns-2)
+shiulbart-read-spec = tie.close (tie.spec (λ c κs. search needs) read-answer-requires returns)

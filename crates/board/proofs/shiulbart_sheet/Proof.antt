@@ -2,43 +2,21 @@
 -- Assumes nothing.
 use borrow.Author.Needs.{needs}
 use native.Mathlib.Omega.{arith}
-use mathlib.Core.Path.{_∙_}
+use mathlib.Core.Path.{_∙_, ap}
+use Rattle.answers.specs.Answers.{sheetPut}
 use Rattle.board.proofs.Small.{exported-sheet}
 use Rattle.board.proofs.shiulbart_sheet.Statement.{statement}
 use Rattle.board.proofs.shiulbart_sheet.Tie as tie
 
-refusal-of-requires : tie.Need-refusal-of-requires
-refusal-of-requires c κs =
-    let b = c .before in let r = b .before .before in let k = r .before in
-    let e = rw (← r .check .ensures, b .place .given .1) at (exported-sheet (k .before .args .sheet .now) (λ i. omega (arith, k .shared-slice-known .given i))) in
-    search needs
-
-answer-of-requires : tie.Need-answer-of-requires
-answer-of-requires c κs =
-    let b = c .before in let r = b .before .before in let k = r .before in
-    let e = rw (← r .check .ensures, b .entries .given .1) at (exported-sheet (k .before .args .sheet .now) (λ i. omega (arith, k .shared-slice-known .given i))) in
-    search needs
+sheet-answer-requires : tie.Need-sheet-answer-requires
+sheet-answer-requires c κs =
+    let k = c .before in
+    rw (c .check .ensures) (exported-sheet (k .before .args .sheet .now) (λ i. omega (arith, k .shared-slice-known .given i)) .fits)
 
 returns : tie.Need-returns
 returns c =
-    let b = c .before .before in let r = b .before .before in let k = r .before in
-    let e = rw (← r .check .ensures, b .place .given .1) at (exported-sheet (k .before .args .sheet .now) (λ i. omega (arith, k .shared-slice-known .given i))) in
-    c .refusal-of .ensures ∙ e .is
-
-returns-2 : tie.Need-returns-2
-returns-2 c =
-    let b = c .before .before in let r = b .before .before in let k = r .before in
-    let e = rw (← r .check .ensures, b .entries .given .1) at (exported-sheet (k .before .args .sheet .now) (λ i. omega (arith, k .shared-slice-known .given i))) in
-    c .answer-of .ensures ∙ e .is
+    let m = c .before in let k = m .before in
+    c .sheet-answer .ensures ∙ ap sheetPut (m .check .ensures) ∙ exported-sheet (k .before .args .sheet .now) (λ i. omega (arith, k .shared-slice-known .given i)) .is
 
 pub shiulbart-sheet-spec : {M : Type 1} → statement M
-shiulbart-sheet-spec =
-    tie.close
-    (tie.spec
-    (λ c κs. search needs)
-    (λ c. search needs)
-    refusal-of-requires
-    (λ c. search needs)
-    answer-of-requires
-    returns
-    returns-2)
+shiulbart-sheet-spec = tie.close (tie.spec (λ c κs. search needs) sheet-answer-requires returns)

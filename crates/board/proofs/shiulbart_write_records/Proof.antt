@@ -49,15 +49,16 @@ use Rattle.editor.proofs.write_records as write
 use Rattle.editor.proofs.write_records.Symbol as write-def
 use Rattle.editor.proofs.write_records.Symbol.{name as #editor·write-records}
 use Rattle.editor.proofs.write_records.Met as write-thm
-use Rattle.board.specs.declared.Answer.{Answer}
-use Rattle.board.specs.Answers.{madePut, MadeFits, recordsAnswer}
+use Rattle.answers.specs.declared.Answer.{Answer}
+use Rattle.answers.specs.Answers.{madePut, Fits}
+use Rattle.board.specs.Answers.{recordsAnswer}
 use Rattle.board.proofs.Small.{records-fit}
-use Rattle.board.proofs.Answer as Answer′
-use Rattle.board.proofs.Answer.Laws as Answer″
-use Rattle.board.proofs.made_answer as put
-use Rattle.board.proofs.made_answer.Symbol as put-def
-use Rattle.board.proofs.made_answer.Symbol.{name as #board·made-answer}
-use Rattle.board.proofs.made_answer.Met as put-thm
+use Rattle.answers.proofs.Answer as Answer′
+use Rattle.answers.proofs.Answer.Laws as Answer″
+use Rattle.answers.proofs.made_answer as put
+use Rattle.answers.proofs.made_answer.Symbol as put-def
+use Rattle.answers.proofs.made_answer.Symbol.{name as #answers·made-answer}
+use Rattle.answers.proofs.made_answer.Met as put-thm
 use Rattle.board.proofs.shiulbart_write_records.Key.{name as #board·shiulbart-write-records}
 use Rattle.board.proofs.shiulbart_write_records as f
 use Rattle.board.proofs.shiulbart_write_records.Statement as stated
@@ -135,7 +136,7 @@ module _ {M : Type 1} (𝓤 : URA M) (H : Heap 𝓤) (A : Atoms 𝓤) (W : Given
   abbrev to-put : Made → Val → Put 𝓤 H A mem run .Ghost
   to-put m v = ((tt, tt, tt, (m, tt), (v ∷ [], tt)), tt)
 
-  goes-put : (m : Made) (v : Val) → MadeFits m → ent 𝓤 (sem 𝓤 H A (Made′.the-row .own m (v ∷ []))) (Put 𝓤 H A mem run .pre (to-put m v))
+  goes-put : (m : Made) (v : Val) → Fits (madePut m) → ent 𝓤 (sem 𝓤 H A (Made′.the-row .own m (v ∷ []))) (Put 𝓤 H A mem run .pre (to-put m v))
   goes-put m v fits = qed W (‵ (Made′.the-row .own m (v ∷ [])) ∷ []) ∵ says ! fits $ nothing ! $ frame ! $ nothing ! $ move ! (1 ∷ 0 ∷ []) $ fjoin ! $ done !
 
   exits : (a : Answer) (v : Val) (zs : List ℕ) → (a, zs) ≡ recordsAnswer ns rs ds → length zs ≡ length ds
@@ -145,7 +146,7 @@ module _ {M : Type 1} (𝓤 : URA M) (H : Heap 𝓤) (A : Atoms 𝓤) (W : Given
       suffices ! _ (ends-at 𝓤 H A f.ended stayed (f.clauses 𝓤 H A mem run) W ((κs, (q, (q′, (q″, tt))), tt, x, at), tt) v a (tt, (tt, (zs, tt))) (tt, (tt, (l, tt)))) $ says ! e $ frame ! $
       nothing ! $ move ! (3 ∷ 0 ∷ []) $ fjoin ! $ move ! (2 ∷ 0 ∷ []) $ fjoin ! $ move ! (1 ∷ 0 ∷ []) $ fjoin ! $ frame ! $ done !
 
-  module _ (C : Calls 𝓤 H) (Λ : Loops 𝓤 H) (fm : FmC 𝓤 H (W .laws) C) (known-write : Triple 𝓤 (C #editor·write-records) (Write 𝓤 H A mem run)) (known-put : Triple 𝓤 (C #board·made-answer) (Put 𝓤 H A mem run)) where
+  module _ (C : Calls 𝓤 H) (Λ : Loops 𝓤 H) (fm : FmC 𝓤 H (W .laws) C) (known-write : Triple 𝓤 (C #editor·write-records) (Write 𝓤 H A mem run)) (known-put : Triple 𝓤 (C #answers·made-answer) (Put 𝓤 H A mem run)) where
     walk : Room Node′.the-row (length ns) → Room u8 (length rs) → Room u8 (length ds) → ent 𝓤 (onEntry 𝓤 H A f.signature κs (q, (q′, (q″, tt))) x at) (WpFn 𝓤 H C Λ code.function (s ∷ s′ ∷ s″ ∷ []) Post)
     walk gn gr gd =
         qed W (Tokens ∷ ‵ Owned ∷ []) ∵ enter ! C Λ code.function (s ∷ s′ ∷ s″ ∷ []) _ $
@@ -167,7 +168,7 @@ module _ {M : Type 1} (𝓤 : URA M) (H : Heap 𝓤) (A : Atoms 𝓤) (W : Given
         move ! (2 ∷ []) $ split ! $ move ! (1 ∷ []) $ peeks ! Made′.the-row (Is Made′.the-row) (shows 𝓤 H A Made′.the-row) m (v ∷ []) (λ is.
         -- [what was said; the tokens; out's last list; …; rest's; nodes'; _6; …; _0; …]: what was said is kept in _4, and goes to `made_answer`
         land ! (from ! (stop !)) (init ! 10 refl (EnumLaws.lawful Made′.the-type Made″.the-laws 𝓤 H A W tt .typed m _ is .0)) $
-        use1 W (raw (Put 𝓤 H A mem run .pre (to-put m v))) (goes-put m v (subst MadeFits (sym (ap (λ (p : Made × List ℕ). p .0) e)) (records-fit ns rs ds))) $
+        use1 W (raw (Put 𝓤 H A mem run .pre (to-put m v))) (goes-put m v (subst (λ (m : Made). Fits (madePut m)) (sym (ap (λ (p : Made × List ℕ). p .0) e)) (records-fit ns rs ds))) $
         calls-at ! fm (Put 𝓤 H A mem run) known-put (to-put m v) (and-then ! (load ! (from ! (stop !)) (look ! 10 refl)) (no-more !)) (λ w.
         use1 W (later (some (λ (a : Answer). (‵ ftrue ⊛ ‵ (Answer′.the-row .own a (w ∷ []))) ⊛ raw (ensured 𝓤 H A put.ended (put.clauses 𝓤 H A mem run) tt (m, tt) tt a)))) (id⊢ 𝓤 _) $ await ! tt $ pick ! (λ a.
         split ! $ move ! (1 ∷ []) $ use1 W (raw (fact 𝓤 (a ≡ madePut m))) (put-of 𝓤 H A mem run m a) $ heard ! (a ≡ madePut m) (λ is-put. split ! $ drop ! $
@@ -179,7 +180,7 @@ module _ {M : Type 1} (𝓤 : URA M) (H : Heap 𝓤) (A : Atoms 𝓤) (W : Given
         keep ! (1 ∷ 5 ∷ 4 ∷ 2 ∷ 0 ∷ []) $ by ! (exits a w (zs .1 .1 .0) (ap (λ (u : Answer). (u, zs .1 .1 .0)) is-put ∙ ap (λ (p : Made × List ℕ). (madePut (p .0), p .1)) e) le))))))))))))))))))
 
 module _ {M : Type 1} (𝓤 : URA M) (H : Heap 𝓤) (A : Atoms 𝓤) (W : Given 𝓤 H A) (mem : Memory → SProp 𝓤) (run : Routine → Fun 𝓤) where
-  walks : (C : Calls 𝓤 H) (Λ : Loops 𝓤 H) → FmC 𝓤 H (W .laws) C → Triple 𝓤 (C #editor·write-records) (Write 𝓤 H A mem run) → Triple 𝓤 (C #board·made-answer) (Put 𝓤 H A mem run)
+  walks : (C : Calls 𝓤 H) (Λ : Loops 𝓤 H) → FmC 𝓤 H (W .laws) C → Triple 𝓤 (C #editor·write-records) (Write 𝓤 H A mem run) → Triple 𝓤 (C #answers·made-answer) (Put 𝓤 H A mem run)
       → Walks 𝓤 H A f.ended stayed (WpFn 𝓤 H C Λ code.function) (f.clauses 𝓤 H A mem run)
   walks C Λ fm known-write known-put =
       walked 𝓤 H A f.ended stayed (f.clauses 𝓤 H A mem run) (WpFn 𝓤 H C Λ code.function) (λ κs. (slice-vals, (slice-vals, (slice-vals, tt))))
@@ -189,7 +190,7 @@ module _ {M : Type 1} (𝓤 : URA M) (H : Heap 𝓤) (A : Atoms 𝓤) (W : Given
       (a .1 .1 .0 .ptr .0) (a .1 .1 .0 .ptr .1) (a .1 .1 .0 .name) (a .1 .1 .0 .now) C Λ fm known-write known-put (are .0 .0 .1) (are .1 .0 .0 .1) (are .1 .1 .0 .0 .1)))
 
 meets : {M : Type 1} (𝓤 : URA M) (H : Heap 𝓤) (A : Atoms 𝓤) → Given 𝓤 H A → (mem : Memory → SProp 𝓤) (run : Routine → Fun 𝓤) (𝓣 : Tables 𝓤 H)
-    → Triple 𝓤 (𝓣 .C #editor·write-records) (Write 𝓤 H A mem run) → Triple 𝓤 (𝓣 .C #board·made-answer) (Put 𝓤 H A mem run)
+    → Triple 𝓤 (𝓣 .C #editor·write-records) (Write 𝓤 H A mem run) → Triple 𝓤 (𝓣 .C #answers·made-answer) (Put 𝓤 H A mem run)
     → Meets 𝓤 H A f.signature (WpFn 𝓤 H (𝓣 .C) (𝓣 .Λ) code.function) (f.spec 𝓤 H A mem run)
 meets 𝓤 H A W mem run 𝓣 known-write known-put =
     walk-meets 𝓤 H A f.ended stayed W
@@ -204,4 +205,4 @@ shiulbart-write-records-spec 𝓤 H 𝓜 𝓖 𝓡 =
     (tables 𝓤 H 𝓜 𝓡 code.env .C) (tables 𝓤 H 𝓜 𝓡 code.env .Λ) #board·shiulbart-write-records code.function (code.unfolded 𝓤 H 𝓜 𝓡)
     (meets 𝓤 H (𝓖 .A) (givenOf 𝓤 H 𝓜 𝓖) (𝓜 .mem) (𝓡 .run) (tablesOf 𝓤 H 𝓜 (tables 𝓤 H 𝓜 𝓡 code.env))
     (cited 𝓤 H (Write 𝓤 H (𝓖 .A) (𝓜 .mem) (𝓡 .run)) 𝓜 𝓡 code.env #editor·write-records write-def.routine code.calls-editor·write-records (write-thm.met 𝓤 H 𝓜 𝓖 𝓡))
-    (cited 𝓤 H (Put 𝓤 H (𝓖 .A) (𝓜 .mem) (𝓡 .run)) 𝓜 𝓡 code.env #board·made-answer put-def.routine code.calls-board·made-answer (put-thm.met 𝓤 H 𝓜 𝓖 𝓡)))
+    (cited 𝓤 H (Put 𝓤 H (𝓖 .A) (𝓜 .mem) (𝓡 .run)) 𝓜 𝓡 code.env #answers·made-answer put-def.routine code.calls-answers·made-answer (put-thm.met 𝓤 H 𝓜 𝓖 𝓡)))

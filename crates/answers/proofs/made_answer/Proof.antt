@@ -1,8 +1,8 @@
--- `board::made_answer` meets its contract: the numbers of the case at hand fit, and are handed on.
+-- `answers::made_answer` meets its contract: the numbers of the case at hand fit, and are handed on.
 -- Assumes nothing.
 use borrow.Author.Needs.{needs}
-use Rattle.board.proofs.made_answer.Statement.{statement}
-use Rattle.board.proofs.made_answer.Tie as tie
+use Rattle.answers.proofs.made_answer.Statement.{statement}
+use Rattle.answers.proofs.made_answer.Tie as tie
 
 refusal-of-requires : tie.Need-refusal-of-requires
 refusal-of-requires c κs = let fits = rw (c .before .made .given .1) at (c .before .before .before .pre) in search needs
