@@ -7,7 +7,7 @@ exec </dev/null
 . "$(dirname "$(readlink -f "${BASH_SOURCE[0]}")")/tally.bash" || exit
 
 scratch=$(mktemp -d) || { wrong 'there is no temporary folder'; finish; }
-trap 'rm -rf "$scratch"' EXIT
+trap 'kill $(jobs -p) 2>/dev/null; rm -rf "$scratch"' EXIT
 
 # Runs what must work for the rest to make sense.
 need() { # COMMAND...
@@ -25,16 +25,30 @@ add() { # WHAT STATUS PASSED FAILED
     fi
 }
 
-# A program whose last line is 'N passed, M failed'.
-counted() { # COMMAND...
-    local status
-    "$@" 2>&1 | tee "$scratch/log"
-    status=${PIPESTATUS[0]}
-    if [[ $(tail -n 1 "$scratch/log") =~ ^([0-9]+)\ passed,\ ([0-9]+)\ failed$ ]]; then
-        add "$*" "$status" $((10#${BASH_REMATCH[1]})) $((10#${BASH_REMATCH[2]}))
+# Counts what a program said, whose last line is 'N passed, M failed'.
+count() { # WHAT STATUS FILE
+    if [[ $(tail -n 1 "$3") =~ ^([0-9]+)\ passed,\ ([0-9]+)\ failed$ ]]; then
+        add "$1" "$2" $((10#${BASH_REMATCH[1]})) $((10#${BASH_REMATCH[2]}))
     else
-        wrong "$*: exit status $status, and its last line is not 'N passed, M failed'"
+        wrong "$1: exit status $2, and its last line is not 'N passed, M failed'"
     fi
+}
+
+# Starts such a program of the comparison beside what comes next: it takes one core, and long where it
+# is emulated.
+declare -A started
+begin() { # NAME WORDS...
+    cargo run --release --offline --locked -q -p compare --bin "$1" -- "${@:2}" >"$scratch/$1" 2>&1 &
+    started[$1]=$!
+}
+
+# Waits for it, and shows and counts what it said.
+end() { # NAME
+    local status
+    wait "${started[$1]}"
+    status=$?
+    cat "$scratch/$1"
+    count "$1" "$status" "$scratch/$1"
 }
 
 # Rust's tests: every test program has its line 'test result: ok. N passed; M failed; ..'.
@@ -63,12 +77,17 @@ archive=${SHIULBART_ARCHIVE_DIR:-$top/target/staticlib}/libboard.a
 
 cd host || { wrong "there is no folder $top/host"; finish; }
 need cargo build --release --offline --locked --workspace
-rust_tests --workspace --tests
+begin compare --gate
+begin stack
 if [ "$(uname -m)" = aarch64 ]; then
+    # the model links no archive, so nothing of it has to be emulated
+    rust_tests -p model --tests --target aarch64-unknown-linux-gnu
+    rust_tests --workspace --exclude model --tests
     # no documentation tests: they would need a rustdoc that builds for x86-64
     compiler=$CARGO_TARGET_X86_64_UNKNOWN_LINUX_GNU_LINKER
     runner=$CARGO_TARGET_X86_64_UNKNOWN_LINUX_GNU_RUNNER
 else
+    rust_tests --workspace --tests
     compiler=cc runner=
     rust_tests -p shiulbart --doc
 fi
@@ -76,7 +95,10 @@ fi
 # the header, from C and, where there is a compiler for it, as C++
 strict=(-Wall -Wextra -Werror -pedantic -I "$top/include")
 if "$compiler" -std=c99 "${strict[@]}" "$top/tests/header.c" "$archive" -o "$scratch/header" 2>&1; then
-    counted $runner "$scratch/header"
+    $runner "$scratch/header" >"$scratch/header.out" 2>&1
+    status=$?
+    cat "$scratch/header.out"
+    count tests/header.c "$status" "$scratch/header.out"
 else
     wrong "tests/header.c does not compile"
 fi
@@ -88,6 +110,6 @@ if command -v c++ >/dev/null; then
     fi
 fi
 
-counted cargo run --release --offline --locked -q -p compare --bin compare -- --gate
-counted cargo run --release --offline --locked -q -p compare --bin stack
+end compare
+end stack
 finish

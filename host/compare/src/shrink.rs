@@ -52,7 +52,8 @@ pub fn drop_entries(input: &[u8], differs: impl Fn(&[u8]) -> bool) -> Vec<u8> {
 }
 
 /// As `shrink`, for a table: first drops nodes, links, names and text, in each section as many at once
-/// as can be.
+/// as can be. Of a section with many entries only whole blocks are dropped, so that a table which has
+/// to be large does not take too long.
 pub fn shrink_table(input: &[u8], differs: impl Fn(&[u8]) -> bool) -> Vec<u8> {
     let mut bytes = input.to_vec();
     loop {
@@ -61,6 +62,7 @@ pub fn shrink_table(input: &[u8], differs: impl Fn(&[u8]) -> bool) -> Vec<u8> {
             for size in sizes(before) {
                 let mut at = 0;
                 while let Some(smaller) = Table::apart(&bytes)
+                    .filter(|table| entries(table)[section] <= MOST_BLOCKS * size)
                     .and_then(|table| without_entries(table, section, at, size))
                     .map(|table| table.bytes())
                 {
@@ -104,6 +106,19 @@ pub fn shrink_records(input: &RecordTable, differs: impl Fn(&RecordTable) -> boo
 /// Longer tables are not changed byte by byte.
 const SHORT: usize = 512;
 
+/// A section of more blocks of a size than this is not gone through for blocks of that size.
+const MOST_BLOCKS: usize = 256;
+
+/// How many entries each section has.
+fn entries(table: &Table) -> [usize; 4] {
+    [
+        table.nodes.len(),
+        table.links.len(),
+        table.names.len(),
+        table.text.len(),
+    ]
+}
+
 /// The table without some entries of a section, if they are there. Its count is as wrong as it was, and
 /// the numbers of other entries fit.
 fn without_entries(mut table: Table, section: usize, at: usize, size: usize) -> Option<Table> {
@@ -119,13 +134,7 @@ fn without_entries(mut table: Table, section: usize, at: usize, size: usize) -> 
         fitted(&mut end);
         *length = end.saturating_sub(*start);
     };
-    let count = [
-        table.nodes.len(),
-        table.links.len(),
-        table.names.len(),
-        table.text.len(),
-    ][section];
-    if at + size > count {
+    if at + size > entries(&table)[section] {
         return None;
     }
     table.counts[section] = table.counts[section].wrapping_sub(size as u16);
