@@ -1,6 +1,6 @@
 -- How long and how deep the shapes of nodes are, up to one over their limits, as the code finds them: each node's extent from those of the nodes
 -- before it. Proved to be the extents of the shapes that the nodes stand for (proofs/Shapes.antt). No public contract cites it.
-use Prim.Native.Nat.{ℕ, zero, suc, _+_, _*_, _-_, _<_, max, min}
+use Prim.Native.Nat.{ℕ, zero, suc, _+_, _-_, _<_, max, min}
 use mathlib.Core.Path.{_≡_}
 use mathlib.Core.List.{List}
 use mathlib.Core.Bool.{Bool, _&&_}

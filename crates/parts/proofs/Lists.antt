@@ -8,7 +8,7 @@ use Prim.Native.Nat.{ℕ, _+_, _≤_, _<_}
 use native.Mathlib.Omega.{arith}
 use lib.ListN.{length, length-append}
 use Rattle.meaning.specs.Numbers.{twoBytes, leb128}
-use Rattle.meaning.specs.Shape.{Text, Tree, fields, parameters, Shape, arrayOf, mapOf, recordOf, functionOf, symbolOf, noFields, field, noParameters, parameter, count}
+use Rattle.meaning.specs.Shape.{Text, Tree, fields, parameters, Shape, arrayOf, mapOf, recordOf, functionOf, symbolOf, count}
 use Rattle.meaning.specs.FirstByte as Meant
 use Rattle.meaning.specs.Encode.{sized, arrayBytes, textsBytes, encode}
 use Rattle.meaning.specs.Reading.{hasShort}

@@ -1,7 +1,7 @@
 -- NOT TO BE BELIEVED: proved equal to reading (proofs/Whole.antt, `walk-reading`). Private functions' contracts cite it, no public one does.
 -- 01-scope.md, "Reading order", once more, as the code goes: by places in the input s, in a window that ends at end. What is made of the
 -- shapes on the way is left open (`Fold`), so that one theorem serves every walk over an input.
-use Prim.Native.Nat.{ℕ, zero, suc, _+_, _-_, _<_, _≤_, max}
+use Prim.Native.Nat.{ℕ, zero, suc, _+_, _<_, _≤_, max}
 use mathlib.Core.Path.{_≡_}
 use mathlib.Core.List.{List}
 use lib.ListN.{length, getD}

@@ -1,6 +1,6 @@
 -- The bytes of a node, as the code writes them: by places in the bytes of the nodes and in the rest of the table, from the bytes of the nodes before
 -- it. Proved to be the encoding of the node's shape (proofs/Shapes.antt, `node-encoded`). No public contract cites it.
-use Prim.Native.Nat.{ℕ, zero, suc, _+_, _*_, _-_, _/_}
+use Prim.Native.Nat.{ℕ, zero, suc, _+_, _-_, _/_}
 use mathlib.Core.List.{List, [], _∷_, _++_}
 use mathlib.Core.Bool.{Bool, true, false}
 use lib.Dec.{ltb, eqb}
@@ -10,14 +10,14 @@ use Rattle.meaning.specs.Rules.{_⇒_∣_}
 use Rattle.meaning.specs.Numbers.{twoBytes, leb128}
 use Rattle.meaning.specs.FirstByte.{primByte, arrayByte, mapByte}
 use Rattle.meaning.specs.Encode.{blankBytes, encode}
-use Rattle.meaning.specs.Table.{Node, Link, Table, arrayKind, mapKind, recordKind, functionKind, symbolKind, shapeOf}
+use Rattle.meaning.specs.Table.{Node, Table, arrayKind, mapKind, recordKind, functionKind, symbolKind, shapeOf}
 use Rattle.meaning.specs.TableReading.{nodeSize}
 use Rattle.payloads.specs.declared.first.Kind.{Kind}
 use Rattle.payloads.specs.declared.first.Kind.the-variants.{Array, Map, Record, Function, Symbol}
 use Rattle.steps.specs.Heads.{headBytes}
 use Rattle.tables.specs.declared.Way.{Way}
 use Rattle.tables.specs.declared.Way.the-variants.{Bare, Named, Texts}
-use Rattle.tables.specs.Places.{textPlace, tableIn, nodeAt, linkAt, nameAt, targetKind}
+use Rattle.tables.specs.Places.{textPlace, tableIn, linkAt, nameAt, targetKind}
 use Rattle.writer.specs.declared.Form.{Form}
 use Rattle.writer.specs.declared.Form.the-variants as form
 
