@@ -16,8 +16,9 @@ use Rattle.payloads.specs.declared.first.Kind.{Kind}
 use Rattle.steps.specs.Heads.{headBytes}
 use Rattle.tables.specs.declared.Way.{Way}
 use Rattle.tables.specs.Places.{nodeAt}
-use Rattle.writer.specs.declared.Form.the-variants as form
-use Rattle.writer.specs.Bytes.{formOf, countBytes, withHead, encodedAt, linksBytes}
+use Rattle.forms.specs.declared.Form.the-variants as form
+use Rattle.forms.specs.Forms.{formOf, countBytes}
+use Rattle.writer.specs.Bytes.{withHead, encodedAt, linksBytes}
 use Rattle.writer.specs.Sound.{Sound, Room}
 use Rattle.writer.proofs.Links.{node-by-form}
 

@@ -1,4 +1,3 @@
-pub mod ByKind
 pub mod Shapes
 pub mod Links
 pub mod Turns

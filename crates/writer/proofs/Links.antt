@@ -23,10 +23,12 @@ use Rattle.tables.specs.Places.{textPlace, nodeAt, linkAt, targetKind, goodBy, 
 use Rattle.extents.proofs.Sound as Good
 use Rattle.extents.proofs.Sound.{bare-below, named-below, named-inside, text-inside, first-good, array-has, map-has, record-has, function-has, symbol-has, link-room, links-room, every-good}
 use Rattle.extents.proofs.Shapes.{names-inside}
-use Rattle.writer.specs.declared.Form.{Form}
-use Rattle.writer.specs.declared.Form.the-variants as form
-use Rattle.writer.specs.Bytes.{arrayForm, mapForm, formOf, formBytes, encodedAt, nodeBytes}
-use Rattle.writer.specs.Sound.{Sound, HasName, NamedBy, Aims, Formed, Linked}
+use Rattle.forms.specs.declared.Form.{Form}
+use Rattle.forms.specs.declared.Form.the-variants as form
+use Rattle.forms.specs.Forms.{arrayForm, mapForm, formOf}
+use Rattle.writer.specs.Bytes.{formBytes, encodedAt, nodeBytes}
+use Rattle.forms.specs.Forms.{HasName, NamedBy, Aims, Formed}
+use Rattle.writer.specs.Sound.{Sound, Linked}
 use Rattle.writer.proofs.Shapes.{node-encoded}
 
 module _ (nodes rest : List ℕ) (links names : ℕ) (s : Sound nodes rest links names) where

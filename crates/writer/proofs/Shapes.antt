@@ -26,8 +26,9 @@ use Rattle.tables.specs.Places.{textPlace, nodeAt, linkAt, targetKind, goodBy, 
 use Rattle.tables.proofs.Whole.{Fits, node-view, link-view, text-view}
 use Rattle.extents.proofs.Sound.{cases, and-left, and-right, bare-below, named-below, named-inside, text-inside, array-has, map-has, record-has, function-has, symbol-has, every-good}
 use Rattle.extents.proofs.Shapes.{fields-count, parameters-count, texts-count, primitiveOf, text-long, prim-held}
-use Rattle.writer.specs.declared.Form.{Form}
-use Rattle.writer.specs.Bytes.{textAt, arrayForm, mapForm, formOf, withHead, runBytes, formBytes, tableAt, encodedAt, nodeBytes}
+use Rattle.forms.specs.declared.Form.{Form}
+use Rattle.forms.specs.Forms.{textAt, arrayForm, mapForm, formOf}
+use Rattle.writer.specs.Bytes.{withHead, runBytes, formBytes, tableAt, encodedAt, nodeBytes}
 use Rattle.writer.specs.Sound.{Sound}
 
 -- T is a table whose links and texts are those of the rest; child says the shapes of the nodes before node i, and bytes what is written of them

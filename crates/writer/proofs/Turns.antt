@@ -19,7 +19,8 @@ use Rattle.tables.specs.declared.Way.{Way}
 use Rattle.tables.specs.declared.Way.the-variants.{Bare, Named, Texts}
 use Rattle.tables.specs.Places.{linkAt}
 use Rattle.extents.proofs.Sound.{others-good}
-use Rattle.writer.specs.Bytes.{nameBytes, childBytes, runBytes, encodedAt, linksBytes}
+use Rattle.forms.specs.Forms.{nameBytes}
+use Rattle.writer.specs.Bytes.{childBytes, runBytes, encodedAt, linksBytes}
 use Rattle.writer.specs.Sound.{Linked, Room}
 
 -- what the loop keeps, of the buffer d that is now e: the links so far are w

@@ -24,9 +24,9 @@ use Rattle.steps.proofs.put.put_blank.Reads as put-blank-reads
 use Rattle.steps.proofs.put.put_head.Reads as put-head-reads
 use Rattle.tables.proofs.link_at.Reads as link-at-reads
 use Rattle.tables.proofs.node_at.Reads as node-at-reads
-use Rattle.writer.proofs.form_of.Reads as form-of-reads
-use Rattle.writer.proofs.put_count.Reads as put-count-reads
-use Rattle.writer.proofs.put_name.Reads as put-name-reads
+use Rattle.forms.proofs.form_of.Reads as form-of-reads
+use Rattle.forms.proofs.put_count.Reads as put-count-reads
+use Rattle.forms.proofs.put_name.Reads as put-name-reads
 use Rattle.writer.proofs.+put_node+put_run.{statement}
 use Rattle.writer.proofs.+put_node+put_run.Tie.{close}
 

@@ -1,11 +1,11 @@
--- `writer::map_form` meets its contract.
+-- `forms::map_form` meets its contract.
 -- Assumes nothing.
 use borrow.Author.Needs.{needs}
 use borrow.Author.Tests.{lt-ltb, le-ltb}
 use Rattle.meaning.specs.Table.{arrayKind}
-use Rattle.writer.specs.Bytes.{mapForm}
-use Rattle.writer.proofs.map_form.Statement.{statement}
-use Rattle.writer.proofs.map_form.Tie as tie
+use Rattle.forms.specs.Forms.{mapForm}
+use Rattle.forms.proofs.map_form.Statement.{statement}
+use Rattle.forms.proofs.map_form.Tie as tie
 
 returns : tie.Need-returns
 unfolding mapForm

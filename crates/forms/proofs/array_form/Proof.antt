@@ -1,11 +1,11 @@
--- `writer::array_form` meets its contract.
+-- `forms::array_form` meets its contract.
 -- Assumes nothing.
 use borrow.Author.Needs.{needs}
 use borrow.Author.Tests.{lt-ltb, le-ltb}
 use Rattle.meaning.specs.Table.{arrayKind}
-use Rattle.writer.specs.Bytes.{arrayForm}
-use Rattle.writer.proofs.array_form.Statement.{statement}
-use Rattle.writer.proofs.array_form.Tie as tie
+use Rattle.forms.specs.Forms.{arrayForm}
+use Rattle.forms.proofs.array_form.Statement.{statement}
+use Rattle.forms.proofs.array_form.Tie as tie
 
 returns : tie.Need-returns
 unfolding arrayForm

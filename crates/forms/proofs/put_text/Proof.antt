@@ -1,4 +1,4 @@
--- `writer::put_text` meets its contract.
+-- `forms::put_text` meets its contract.
 -- Assumes nothing.
 use borrow.Author.Needs.{needs}
 use native.Mathlib.Omega.{arith}
@@ -12,10 +12,10 @@ use Rattle.meaning.specs.Table.{Name, name}
 use Rattle.tables.specs.Places.{textPlace, nameAt}
 use Rattle.buffers.specs.Written.{written}
 use Rattle.buffers.proofs.Written.{written-after}
-use Rattle.writer.specs.Bytes.{textAt}
-use Rattle.writer.specs.Sound.{HasName}
-use Rattle.writer.proofs.put_text.Statement.{statement}
-use Rattle.writer.proofs.put_text.Tie as tie
+use Rattle.forms.specs.Forms.{textAt}
+use Rattle.forms.specs.Forms.{HasName}
+use Rattle.forms.proofs.put_text.Statement.{statement}
+use Rattle.forms.proofs.put_text.Tie as tie
 
 -- what is known of name k, of which start and size were read
 module _ (rest : List ℕ) (links names k : ℕ) (has : HasName rest links names k) (start size : ℕ) (e : name start size ≡ nameAt rest links k) where

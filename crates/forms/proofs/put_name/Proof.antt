@@ -1,11 +1,11 @@
--- `writer::put_name` meets its contract.
+-- `forms::put_name` meets its contract.
 -- Assumes nothing.
 use borrow.Author.Needs.{needs}
 use native.Mathlib.Nat.{add-zero}
 use mathlib.Core.Path.{sym}
 use Rattle.buffers.proofs.Written.{written-none}
-use Rattle.writer.proofs.put_name.Statement.{statement}
-use Rattle.writer.proofs.put_name.Tie as tie
+use Rattle.forms.proofs.put_name.Statement.{statement}
+use Rattle.forms.proofs.put_name.Tie as tie
 
 put-text-requires : tie.Need-put-text-requires
 put-text-requires c κs = rw (c .before .enum-told2 .given .1) at (c .before .before .before .before .before .pre)

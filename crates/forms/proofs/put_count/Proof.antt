@@ -1,11 +1,11 @@
--- `writer::put_count` meets its contract.
+-- `forms::put_count` meets its contract.
 -- Assumes nothing.
 use borrow.Author.Needs.{needs}
 use native.Mathlib.Nat.{add-zero}
 use mathlib.Core.Path.{sym}
 use Rattle.buffers.proofs.Written.{written-none}
-use Rattle.writer.proofs.put_count.Statement.{statement}
-use Rattle.writer.proofs.put_count.Tie as tie
+use Rattle.forms.proofs.put_count.Statement.{statement}
+use Rattle.forms.proofs.put_count.Tie as tie
 
 put-leb-requires : tie.Need-put-leb-requires
 put-leb-requires c κs = let q = c .before .before .before in (q .pre .0, rw (c .before .if1 .taken) at (q .pre .1))

@@ -10,8 +10,8 @@ use Rattle.meaning.specs.FirstByte.{primByte}
 use Rattle.meaning.specs.Table.{Node, arrayKind, mapKind, recordKind, functionKind, symbolKind}
 use Rattle.payloads.specs.declared.first.Kind.the-variants.{Record, Function, Symbol}
 use Rattle.tables.specs.declared.Way.the-variants.{Bare, Named, Texts}
-use Rattle.writer.specs.declared.Form.the-variants as form
-use Rattle.writer.specs.Bytes.{arrayForm, mapForm, formOf}
+use Rattle.forms.specs.declared.Form.the-variants as form
+use Rattle.forms.specs.Forms.{arrayForm, mapForm, formOf}
 
 module _ (nodes rest : List ℕ) (n : Node) where
   -- A primitive becomes one byte.

@@ -1,11 +1,11 @@
--- `writer::form_of` meets its contract.
+-- `forms::form_of` meets its contract.
 -- Assumes nothing.
 use borrow.Author.Needs.{needs}
 use native.Mathlib.Omega.{arith}
 use Rattle.tables.specs.Places.{nodeSaid}
-use Rattle.writer.proofs.ByKind.{form-primitive, form-array, form-map, form-record, form-function, form-symbol, form-variable}
-use Rattle.writer.proofs.form_of.Statement.{statement}
-use Rattle.writer.proofs.form_of.Tie as tie
+use Rattle.forms.proofs.ByKind.{form-primitive, form-array, form-map, form-record, form-function, form-symbol, form-variable}
+use Rattle.forms.proofs.form_of.Statement.{statement}
+use Rattle.forms.proofs.form_of.Tie as tie
 
 returns : tie.Need-returns
 returns c = let a = c .before .before .before .args in rw (form-primitive (a .nodes .now) (a .rest .now) (nodeSaid (a .node)) (c .if1 .taken))
