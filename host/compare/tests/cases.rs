@@ -106,7 +106,7 @@ fn sheets_of_every_size() {
     let mut totals = Vec::new();
     let mut lengths = Vec::new();
     for bytes in SheetInputs::new(1).take(20_000) {
-        let outcome = sheet::fast::<0>(&bytes);
+        let outcome = sheet::model(&bytes);
         if outcome.number == 0 {
             sound += 1;
             counts[outcome.extra as usize] += 1;
