@@ -11,19 +11,18 @@ use mathlib.Core.Path.{_≡_, refl}
 use mathlib.Core.List.{List}
 use native.Mathlib.Omega.{arith}
 use lib.Dec.{ltb}
-use lib.ListN.{length, getD}
+use lib.ListN.{length}
 use borrow.Author.Tests.{ltb-true}
 use Rattle.meaning.specs.Limits.{maxNodes}
 use Rattle.meaning.specs.Refusals.{sheetBroken, noSuchPart}
 use Rattle.meaning.specs.Shape.{Shape}
-use Rattle.meaning.specs.Within.{Within}
+use Rattle.meaning.specs.Within.{Bytes, Within}
 use Rattle.meaning.specs.Reading.{Reading, got, bad, hasShort, reading}
 use Rattle.meaning.specs.Sheet.{Sheet}
 use Rattle.meaning.specs.SheetReading.{readSheet}
 use Rattle.meaning.specs.Answers as Meant
 use Rattle.meaning.specs.Parts.{children, childOf, names}
 use Rattle.meaning.proofs.Rules.{rule, both}
-use Rattle.meaning.proofs.Window.{bytes-by-index}
 use Rattle.meaning.proofs.Laws.{encode-reading}
 use Rattle.meaning.proofs.Faults.{refusal-small}
 use Rattle.meaning.proofs.SheetBytes.{sheet-read, sheet-refusal}
@@ -71,13 +70,13 @@ pub records-fit : (nodes : List Node) (rest buffer : List ℕ) → Fits (madePut
 unfolding recordsOutcome
 records-fit nodes rest buffer = made-fits (recordsAnswer nodes rest (length buffer)) (records-small nodes rest (length buffer))
 
-module _ (s : List ℕ) (bytes : (i : ℕ) → getD s i 0 < 256) where
+module _ (s : List ℕ) (bytes : Bytes s) where
   -- An input is a shape within the limits, or is refused with small numbers.
   by-reading : (P : Reading Shape → Type 0) → ((t : Shape) (left : List ℕ) → Within t → P (got t left)) → ((number place : ℕ) → number ≤ noSuchPart → place ≤ farthest → P (bad number place)) → P (reading s)
   by-reading P h k = go (reading s) refl
     where
       go : (r : Reading Shape) → reading s ≡ r → P r
-      go (got t left) p = h t left (encode-reading s t left (bytes-by-index s bytes) p .1)
+      go (got t left) p = h t left (encode-reading s t left bytes p .1)
       go (bad number place) p = let f = refusal-small s number place p in k number place (omega arith) (omega arith)
 
   -- What the reader says of it is what `shiulbart_read` says.
@@ -113,5 +112,5 @@ module _ (s : List ℕ) (bytes : (i : ℕ) → getD s i 0 < 256) where
   exported-sheet = go (readSheet sheetBroken s) refl
     where
       go : (r : Reading Sheet) → readSheet sheetBroken s ≡ r → Given (sheetPut (checked r)) (sheetAnswer r)
-      go (got σ left) p = let w = sheet-read sheetBroken s σ left (bytes-by-index s bytes) p .1 in given _ (omega arith) (omega arith) (omega (arith, w .short)) (omega (arith, w .few))
+      go (got σ left) p = let w = sheet-read sheetBroken s σ left bytes p .1 in given _ (omega arith) (omega arith) (omega (arith, w .short)) (omega (arith, w .few))
       go (bad number place) p = let f = sheet-refusal sheetBroken s number place p in rw (f .0) (given-refusal _ _ (omega arith) (omega arith))

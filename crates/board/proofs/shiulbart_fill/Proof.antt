@@ -2,7 +2,6 @@
 -- Assumes nothing.
 use borrow.Author.Needs.{needs}
 use mathlib.Core.Path.{_∙_, ap}
-use lib.ListN.{length}
 use Rattle.meaning.specs.Answers.{fillAnswer}
 use Rattle.meaning.proofs.Bounds.{fill-small}
 use Rattle.answers.specs.Answers.{madePut}
@@ -12,8 +11,7 @@ use Rattle.board.proofs.shiulbart_fill.Tie as tie
 
 made-answer-requires : tie.Need-made-answer-requires
 made-answer-requires c κs =
-    let m = c .before .before in let a = m .before .before .before .before .before .args in
-    rw (m .fill .ensures .0) (made-fits (fillAnswer (a .template .now) (a .sheet .now) (length (a .out .now))) (fill-small (a .template .now) (a .sheet .now) (length (a .out .now))))
+    rw (c .before .before .fill .ensures .0) (made-fits (fillAnswer _ _ _) (fill-small _ _ _))
 
 returns : tie.Need-returns
 returns c = let m = c .before .before .before in (c .made-answer .ensures ∙ ap madePut (m .fill .ensures .0), m .fill .ensures .1)

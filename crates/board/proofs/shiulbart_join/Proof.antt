@@ -3,7 +3,6 @@
 use borrow.Author.Needs.{needs}
 use native.Mathlib.Omega.{arith}
 use mathlib.Core.Path.{_∙_, ap}
-use lib.ListN.{length}
 use Rattle.meaning.specs.Answers.{joinAnswer}
 use Rattle.meaning.proofs.Window.{bytes-by-index}
 use Rattle.meaning.proofs.Bounds.{join-small}
@@ -15,11 +14,9 @@ use Rattle.board.proofs.shiulbart_join.Tie as tie
 made-answer-requires : tie.Need-made-answer-requires
 made-answer-requires c κs =
     let m = c .before .before in let k2 = m .before .before .before in let k1 = k2 .before in let a = k1 .before .args in
-    rw (m .join .ensures .0)
-    (made-fits (joinAnswer (a .first .now) (a .second .now) (length (a .out .now)))
-    (join-small (a .first .now) (a .second .now) (length (a .out .now))
-    (bytes-by-index (a .first .now) (λ i. omega (arith, k1 .shared-slice-known .given i)))
-    (bytes-by-index (a .second .now) (λ i. omega (arith, k2 .shared-slice-known2 .given i)))))
+    let f = bytes-by-index (a .first .now) (λ i. omega (arith, k1 .shared-slice-known .given i)) in
+    let s = bytes-by-index (a .second .now) (λ i. omega (arith, k2 .shared-slice-known2 .given i)) in
+    rw (m .join .ensures .0) (made-fits (joinAnswer _ _ _) (join-small _ _ _ (search (f, s)) (search (f, s))))
 
 returns : tie.Need-returns
 returns c = let m = c .before .before .before in (c .made-answer .ensures ∙ ap madePut (m .join .ensures .0), m .join .ensures .1)

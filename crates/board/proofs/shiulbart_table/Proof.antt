@@ -3,7 +3,6 @@
 use borrow.Author.Needs.{needs}
 use native.Mathlib.Omega.{arith}
 use mathlib.Core.Path.{_∙_, ap}
-use lib.ListN.{length}
 use Rattle.meaning.specs.Answers.{tableAnswer}
 use Rattle.meaning.proofs.Window.{bytes-by-index}
 use Rattle.meaning.proofs.TableAnswers.{table-small}
@@ -14,10 +13,8 @@ use Rattle.board.proofs.shiulbart_table.Tie as tie
 
 made-answer-requires : tie.Need-made-answer-requires
 made-answer-requires c κs =
-    let m = c .before .before in let k = m .before .before .before in let a = k .before .args in
-    rw (m .to-table .ensures .0)
-    (made-fits (tableAnswer (a .bytes .now) (length (a .out .now)))
-    (table-small (a .bytes .now) (length (a .out .now)) (bytes-by-index (a .bytes .now) (λ i. omega (arith, k .shared-slice-known .given i)))))
+    let m = c .before .before in let k = m .before .before .before in
+    rw (m .to-table .ensures .0) (made-fits (tableAnswer _ _) (table-small _ _ (bytes-by-index (k .before .args .bytes .now) (λ i. omega (arith, k .shared-slice-known .given i)))))
 
 returns : tie.Need-returns
 returns c = let m = c .before .before .before in (c .made-answer .ensures ∙ ap madePut (m .to-table .ensures .0), m .to-table .ensures .1)

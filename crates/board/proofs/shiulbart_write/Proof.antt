@@ -2,7 +2,6 @@
 -- Assumes nothing.
 use borrow.Author.Needs.{needs}
 use mathlib.Core.Path.{_∙_, ap}
-use lib.ListN.{length}
 use Rattle.meaning.specs.Answers.{writeAnswer}
 use Rattle.meaning.proofs.TableAnswers.{write-small}
 use Rattle.answers.specs.Answers.{madePut}
@@ -12,8 +11,7 @@ use Rattle.board.proofs.shiulbart_write.Tie as tie
 
 made-answer-requires : tie.Need-made-answer-requires
 made-answer-requires c κs =
-    let m = c .before .before in let a = m .before .before .before .before .args in
-    rw (m .write .ensures .0) (made-fits (writeAnswer (a .table .now) (length (a .out .now))) (write-small (a .table .now) (length (a .out .now))))
+    rw (c .before .before .write .ensures .0) (made-fits (writeAnswer _ _) (write-small _ _))
 
 returns : tie.Need-returns
 returns c = let m = c .before .before .before in (c .made-answer .ensures ∙ ap madePut (m .write .ensures .0), m .write .ensures .1)
