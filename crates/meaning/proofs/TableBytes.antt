@@ -1,5 +1,6 @@
 -- Reading a table accepts exactly the bytes of the tables within the limits.
 --     nodes-append, nodes-length     the bytes of several nodes
+--     nodes-small, counted-small     nodes, and a number before bytes, are bytes
 --     read-table            the bytes of a table are read as that table
 --     table-read            what is read as a table are the bytes of that table, and it is within the limits
 --     accepts-table         both in one
@@ -73,7 +74,7 @@ abbrev pub longestTable : ℕ
 longestTable = tableSize maxNodes maxLinks maxNames maxText
 
 -- Nodes whose numbers fit are written as bytes.
-nodes-small : (ns : List Node) → NodesFit ns → Bytes (nodesBytes ns)
+pub nodes-small : (ns : List Node) → NodesFit ns → Bytes (nodesBytes ns)
 unfolding nodesBytes NodesFit
 nodes-small [] f = tt
 nodes-small (n ∷ ns) f = (f .0, (f .1, (omega arith, (omega (arith, f .2), (omega arith, (omega (arith, f .3), nodes-small ns (f .4)))))))
@@ -91,7 +92,7 @@ names-small [] f = tt
 names-small (n ∷ ns) f = (omega arith, (omega (arith, f .0), (omega arith, (omega (arith, f .1), names-small ns (f .2)))))
 
 -- A small count and bytes are bytes.
-counted-small : (n : ℕ) (w : List ℕ) → n < 65536 → Bytes w → Bytes (twoBytes n ++ w)
+pub counted-small : (n : ℕ) (w : List ℕ) → n < 65536 → Bytes w → Bytes (twoBytes n ++ w)
 counted-small n w h b = (omega arith, (omega arith, b))
 
 -- the bytes of a table from its second, its third and its fourth count on

@@ -5,13 +5,18 @@
 --     refusal-is      after `Refused n p` the answer is that refusal
 --     fill-front-is, join-front-is, write-front-is, table-front-is     what a run that wrote n bytes answered
 --     fill-made, join-made, write-made, table-made         what that run was lent, and what it made
+--     filled-in, joined-in, wrote-in, tabled-in            what is made once is made in any room that there is for it, and else 12 has its length
 -- Assumes nothing.
-use Prim.Native.Nat.{ℕ}
+use Prim.Native.Nat.{ℕ, _≤_, _<_}
 use mathlib.Core.Path.{_≡_, sym, _∙_, ap}
 use mathlib.Core.List.{List}
+use lib.Dec.{ltb}
 use lib.ListN.{length, take}
-use Rattle.meaning.specs.Answers.{Answer, answered, refused, fillAnswer, joinAnswer, writeAnswer, tableAnswer}
-use Rattle.meaning.proofs.Answers.{buffer-front, buffer-kept, Filled, fill-answered, Joined, join-answered}
+use borrow.Author.Tests.{ltb-true, ltb-false}
+use Rattle.meaning.specs.Refusals.{bufferShort}
+use Rattle.meaning.specs.Answers.{Answer, answered, refused, inRoom, fillAnswer, joinAnswer, writeAnswer, tableAnswer}
+use Rattle.meaning.proofs.Rules.{rule}
+use Rattle.meaning.proofs.Answers.{buffer-front, buffer-kept, Filled, fill-answered, fill-answers, fill-short, Joined, join-answered, join-answers, join-short}
 use Rattle.meaning.proofs.TableAnswers as Meant
 use Rattle.buffers.specs.declared.Made.{Made}
 use Rattle.buffers.specs.declared.Made.the-variants.{Written, Refused}
@@ -65,3 +70,24 @@ module _ {before after : List ℕ} {n : ℕ} where
 
   pub table-made : {bytes : List ℕ} → Tabled bytes before (Written n) after → Meant.Tabled bytes (take n after)
   table-made {bytes} c = Meant.table-answered bytes (length before) (take n after) (c .small) (table-front-is c)
+
+-- What is the answer wherever there is room for it, and else is refused with 12 and its length.
+in-room : (answer : ℕ → Answer) (w : List ℕ) → ((room : ℕ) → length w ≤ room → answer room ≡ answered w) → ((room : ℕ) → room < length w → answer room ≡ refused bufferShort (length w)) → (room : ℕ) → answer room ≡ inRoom room w
+unfolding inRoom
+in-room answer w enough short room = rule (λ a. answer room ≡ a) (ltb room (length w)) _ _ (λ t. short room (ltb-true _ _ t)) (λ t. enough room (ltb-false _ _ t))
+
+-- So is what a fill makes,
+pub filled-in : {template sheet w : List ℕ} → Filled template sheet w → (room : ℕ) → fillAnswer template sheet room ≡ inRoom room w
+filled-in f = rw (f .t-is, f .σ-is, f .is) (in-room _ _ (λ room. fill-answers (f .t) (f .σ) room (f .t-within) (f .σ-within) (f .made-within)) (λ room. fill-short (f .t) (f .σ) room (f .t-within) (f .σ-within) (f .made-within)))
+
+-- what a joining makes,
+pub joined-in : {first second w : List ℕ} → Joined first second w → (room : ℕ) → joinAnswer first second room ≡ inRoom room w
+joined-in f = rw (f .σ-is, f .τ-is, f .is) (in-room _ _ (λ room. join-answers (f .σ) (f .τ) room (f .σ-within) (f .τ-within) (f .made-within)) (λ room. join-short (f .σ) (f .τ) room (f .σ-within) (f .τ-within) (f .made-within)))
+
+-- what the writer makes,
+pub wrote-in : {table w : List ℕ} → Meant.Wrote table w → (room : ℕ) → writeAnswer table room ≡ inRoom room w
+wrote-in f = rw (f .T-is, f .is) (in-room _ _ (λ room. Meant.write-answers (f .T) room (f .T-within) (f .made-within)) (λ room. Meant.write-short (f .T) room (f .T-within) (f .made-within)))
+
+-- and what the way back makes.
+pub tabled-in : {bytes w : List ℕ} → Meant.Tabled bytes w → (room : ℕ) → tableAnswer bytes room ≡ inRoom room w
+tabled-in f = rw (f .s-is, f .is) (in-room _ _ (λ room. Meant.table-answers (f .s) room (f .s-within)) (λ room. Meant.table-short (f .s) room (f .s-within)))

@@ -1,28 +1,17 @@
 -- One outcome: any two outcomes that a call's contract allows agree, in the answer, the refusal and its place, and in every byte of a lent buffer.
---     read-once .. table-once                   of each call
---     board-read-once .. board-table-once       of each exported call
+--     read-once .. records-once     of each call
 -- Assumes nothing.
 use Prim.Native.Nat.{ℕ}
 use mathlib.Core.Path.{_≡_, sym, _∙_}
 use mathlib.Core.List.{List}
-use contract.Lifetimes.{Lfts}
-use denote.Ref.{now}
 use Rattle.buffers.specs.declared.Made.{Made}
 use Rattle.reader.specs.declared.Judgement.{Judgement}
 use Rattle.parts.specs.declared.FoundChild.{FoundChild}
 use Rattle.parts.specs.declared.FoundName.{FoundName}
 use Rattle.sheets.specs.declared.Checked.{Checked}
-use Rattle.answers.specs.declared.Answer.{Answer}
-use Rattle.board.proofs.shiulbart_read.Reads as board-read
-use Rattle.board.proofs.shiulbart_child.Reads as board-child
-use Rattle.board.proofs.shiulbart_name.Reads as board-name
-use Rattle.board.proofs.shiulbart_sheet.Reads as board-sheet
-use Rattle.board.proofs.shiulbart_fill.Reads as board-fill
-use Rattle.board.proofs.shiulbart_join.Reads as board-join
-use Rattle.board.proofs.shiulbart_write.Reads as board-write
-use Rattle.board.proofs.shiulbart_table.Reads as board-table
-use Rattle.promises.proofs.Calls.{Read, ChildOf, NameOf, Check, Fill, Join, Write, Tabled}
-use Rattle.promises.proofs.Says.{read-says, child-says, name-says, check-says, fill-says, join-says, write-says, table-says}
+use Rattle.editor.specs.declared.Node.{Node}
+use Rattle.promises.proofs.Calls.{Read, ChildOf, NameOf, Check, Fill, Join, Write, WriteRecords, Tabled}
+use Rattle.promises.proofs.Says.{read-says, child-says, name-says, check-says, fill-says, join-says, write-says, table-says, records-says}
 
 -- What equals one thing twice is one.
 agree : {A : Type 0} {x y z : A} → x ≡ z → y ≡ z → x ≡ y
@@ -56,30 +45,5 @@ write-once p q = agree-both (write-says p) (write-says q)
 pub table-once : {bytes before after after' : List ℕ} {r r' : Made} → Tabled bytes before r after → Tabled bytes before r' after' → (r ≡ r') × (after ≡ after')
 table-once p q = agree-both (table-says p) (table-says q)
 
--- Of each exported call, whatever its arguments a are: s is what they are at its end.
-module _ (κs : Lfts 1) (r r' : Answer) where
-  pub board-read-once : (a s s' : _) → board-read.Post κs a r s → board-read.Post κs a r' s' → r ≡ r'
-  board-read-once a s s' p q = agree p q
-
-  pub board-child-once : (a s s' : _) → board-child.Post κs a r s → board-child.Post κs a r' s' → r ≡ r'
-  board-child-once a s s' p q = agree p q
-
-  pub board-name-once : (a s s' : _) → board-name.Post κs a r s → board-name.Post κs a r' s' → r ≡ r'
-  board-name-once a s s' p q = agree p q
-
-  pub board-sheet-once : (a s s' : _) → board-sheet.Post κs a r s → board-sheet.Post κs a r' s' → r ≡ r'
-  board-sheet-once a s s' p q = agree p q
-
-module _ (κs : Lfts 3) (r r' : Answer) where
-  pub board-fill-once : (a s s' : _) → board-fill.Post κs a r s → board-fill.Post κs a r' s' → (r ≡ r') × (now (s .1 .1 .0) ≡ now (s' .1 .1 .0))
-  board-fill-once a s s' p q = agree-both p q
-
-  pub board-join-once : (a s s' : _) → board-join.Post κs a r s → board-join.Post κs a r' s' → (r ≡ r') × (now (s .1 .1 .0) ≡ now (s' .1 .1 .0))
-  board-join-once a s s' p q = agree-both p q
-
-module _ (κs : Lfts 2) (r r' : Answer) where
-  pub board-write-once : (a s s' : _) → board-write.Post κs a r s → board-write.Post κs a r' s' → (r ≡ r') × (now (s .1 .0) ≡ now (s' .1 .0))
-  board-write-once a s s' p q = agree-both p q
-
-  pub board-table-once : (a s s' : _) → board-table.Post κs a r s → board-table.Post κs a r' s' → (r ≡ r') × (now (s .1 .0) ≡ now (s' .1 .0))
-  board-table-once a s s' p q = agree-both p q
+pub records-once : {nodes : List Node} {rest before after after' : List ℕ} {r r' : Made} → WriteRecords nodes rest before r after → WriteRecords nodes rest before r' after' → (r ≡ r') × (after ≡ after')
+records-once p q = agree-both (records-says p) (records-says q)

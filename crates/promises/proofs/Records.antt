@@ -1,18 +1,16 @@
--- The editor's records: what the boards rely on of `write_records`. The toolchain offers no `Post` to cite for a function over a slice of records, so
--- a run is stated by the one definition that its contract cites (editor/specs/Records.antt).
---     records-says            what the contract states, by the meaning alone
---     records-once            any two outcomes that the contract allows agree
+-- The calls over the editor's records: laws of `write_records`.
 --     records-same            the outcome is that of `write` on the same table in bytes
---     records-none, records-many     without records, or with too many, it is 9 at 0, whatever the rest
---     records-refuses         it refuses with number n at the place p exactly when a clause of specs/Order.antt gives these
+--     records-order           its answer is the refusal of number n at the place p exactly when a clause of specs/Order.antt gives these
+--     records-refuses         so it refuses
 --     records-numbers         such a number is one of the writer's
+--     records-fits            an answer is no longer than the lent buffer
 --     records-kept            after a refusal the lent buffer equals its entry
 --     records-front           after an answer of n bytes only its first n differ
---     board-records-once, board-records-tells     the same of `shiulbart_write_records`, in four numbers
+--     records-exact           it writes exactly where the records are a table's, all is within the limits, and the lent buffer has the room
 -- Assumes nothing.
 use Prim.Native.Nat.{ℕ, _≤_, _<_}
-use mathlib.Core.Path.{_≡_, refl, _∙_, ap}
-use mathlib.Core.List.{List, [], _∷_, List·Memᴰ as OneOf, List·Memᴰ·head as here}
+use mathlib.Core.Path.{_≡_, refl, _∙_}
+use mathlib.Core.List.{List, [], _∷_, _++_, map, List·Memᴰ as OneOf, List·Memᴰ·head as here}
 use mathlib.Core.Logic.{_↔_}
 use native.Mathlib.Omega.{arith}
 use lib.Dec.{ltb}
@@ -20,37 +18,33 @@ use lib.ListN.{length}
 use borrow.Author.Tests.{ltb-true, ltb-false, lt-ltb, le-ltb}
 use Rattle.meaning.specs.Limits.{maxNodes}
 use Rattle.meaning.specs.Refusals.{sectionBroken, nodeBroken, nameBroken, madeTooDeep, madeTooLong, bufferShort}
-use Rattle.meaning.specs.Answers as Meant
-use Rattle.meaning.specs.Answers.{answered, refused, writeAnswer}
+use Rattle.meaning.specs.Within.{Bytes}
+use Rattle.meaning.specs.Table.{nodesBytes}
+use Rattle.meaning.specs.TableReading.{NodesFit}
+use Rattle.meaning.specs.Answers.{Answer, answered, refused, writeAnswer}
 use Rattle.meaning.proofs.Rules.{rule}
-use Rattle.meaning.proofs.TableAnswers.{write-fits}
+use Rattle.meaning.proofs.Window.{bytes-append}
+use Rattle.meaning.proofs.TableBytes.{nodes-small, counted-small}
+use Rattle.meaning.proofs.TableAnswers.{Wrote, write-answered, write-fits}
 use Rattle.buffers.specs.declared.Made.{Made}
 use Rattle.buffers.specs.declared.Made.the-variants.{Written, Refused}
 use Rattle.editor.specs.declared.Node.{Node}
-use Rattle.editor.specs.Records.{sameTable, recordsAnswer, recordsOutcome}
-use Rattle.answers.specs.declared.Answer.{Answer}
-use Rattle.board.specs.Answers as Board
-use Rattle.board.specs.Answers.{madeAnswer}
-use Rattle.promises.specs.Order.{RecordsRefuses, no-records, many-records, same-bad, FrontOnly, Tells, Keeps}
-use Rattle.promises.proofs.Calls.{Write}
-use Rattle.promises.proofs.Says.{Says, write-says}
+use Rattle.editor.specs.Records.{meant, sameTable, recordsAnswer}
+use Rattle.promises.specs.Order.{RecordsRefuses, no-records, many-records, same-bad, FrontOnly}
+use Rattle.promises.proofs.Calls.{Write, WriteRecords}
+use Rattle.promises.proofs.Says.{write-says, records-says}
+use Rattle.promises.proofs.Once.{agree-both}
 use Rattle.promises.proofs.Ordered.{Ordered, exactly, write-order}
 use Rattle.promises.proofs.Refusing.{made-refuses, made-kept, made-front, write-numbers}
-use Rattle.promises.proofs.Once.{agree-both}
-use Rattle.promises.proofs.Front.{all-kept}
-use Rattle.promises.proofs.Exported.{positive, made-tells}
+use Rattle.promises.proofs.Front.{wrote-in}
+use Rattle.promises.proofs.Exact.{writes-exactly}
 
--- `write_records` of records and the rest of a table said r; the lent buffer held before, and then after
-pub record WriteRecords (nodes : List Node) (rest before : List ℕ) (r : Made) (after : List ℕ) : Type 0 where
-  pub outcome : (r, after) ≡ recordsOutcome nodes rest before
-
--- What it says and what it leaves, by its answer.
-pub records-says : {nodes : List Node} {rest before : List ℕ} {r : Made} {after : List ℕ} → WriteRecords nodes rest before r after → Says (recordsAnswer nodes rest (length before)) before r after
-unfolding recordsOutcome
-records-says c = (ap (λ (o : Made × List ℕ). o .0) (c .outcome), ap (λ (o : Made × List ℕ). o .1) (c .outcome))
+-- A refusal is no answer.
+no-answer : {n p : ℕ} {w : List ℕ} {A : Type 0} → refused n p ≡ answered w → A
+no-answer e = let z : _≡_ {A = ℕ} 0 1 = cc in absurd (omega arith)
 
 -- R holds of an answer's refusals, where it does of each refusal that the answer is.
-ordered : {R : ℕ → ℕ → Type 0} (a : Meant.Answer) → ((n p : ℕ) → a ≡ refused n p → R n p) → Ordered R a
+ordered : {R : ℕ → ℕ → Type 0} (a : Answer) → ((n p : ℕ) → a ≡ refused n p → R n p) → Ordered R a
 ordered (answered w) k = tt
 ordered (refused n p) k = k n p refl
 
@@ -69,7 +63,7 @@ module _ (nodes : List Node) (rest : List ℕ) (room : ℕ) where
   many-answer h = rw (le-ltb (length nodes) 1 (omega arith), lt-ltb maxNodes (length nodes) h) refl
 
   -- By how many there are.
-  by-count : (P : Meant.Answer → Type 0) → (length nodes < 1 → P (refused sectionBroken 0)) → (maxNodes < length nodes → P (refused sectionBroken 0))
+  by-count : (P : Answer → Type 0) → (length nodes < 1 → P (refused sectionBroken 0)) → (maxNodes < length nodes → P (refused sectionBroken 0))
       → (1 ≤ length nodes → length nodes ≤ maxNodes → P (writeAnswer (sameTable nodes rest) room)) → P (recordsAnswer nodes rest room)
   unfolding recordsAnswer
   by-count P none many few =
@@ -84,33 +78,20 @@ module _ (nodes : List Node) (rest : List ℕ) (room : ℕ) where
   records-clause {n} {p} (same-bad some few h) = few-answer some few ∙ write-order (sameTable nodes rest) room n p .1 h
 
   -- What is answered is a refusal exactly by its clauses.
-  records-order : (n p : ℕ) → (recordsAnswer nodes rest room ≡ refused n p) ↔ RecordsRefuses nodes rest room n p
+  pub records-order : (n p : ℕ) → (recordsAnswer nodes rest room ≡ refused n p) ↔ RecordsRefuses nodes rest room n p
   records-order n p = exactly R (by-count (Ordered R) no-records many-records λ some few. ordered _ (λ n p e. same-bad some few (write-order (sameTable nodes rest) room n p .0 e))) records-clause
     where
       R : ℕ → ℕ → Type 0
       R = RecordsRefuses nodes rest room
 
-  -- A refusal is no answer; an answer has the room.
-  no-answer : {n p : ℕ} {w : List ℕ} {A : Type 0} → refused n p ≡ answered w → A
-  no-answer e = let z : _≡_ {A = ℕ} 0 1 = cc in absurd (omega arith)
-
-  records-fits : (w : List ℕ) → recordsAnswer nodes rest room ≡ answered w → length w ≤ room
+  -- An answer has the room.
+  pub records-fits : (w : List ℕ) → recordsAnswer nodes rest room ≡ answered w → length w ≤ room
   records-fits w = by-count (λ a. a ≡ answered w → length w ≤ room) (λ _. no-answer) (λ _. no-answer) (λ _ _. write-fits (sameTable nodes rest) room w)
 
 module _ {nodes : List Node} {rest before : List ℕ} where
-  pub records-once : {r r' : Made} {after after' : List ℕ} → WriteRecords nodes rest before r after → WriteRecords nodes rest before r' after' → (r ≡ r') × (after ≡ after')
-  records-once p q = agree-both (records-says p) (records-says q)
-
   pub records-same : {r r' : Made} {after after' : List ℕ} → WriteRecords nodes rest before r after → Write (sameTable nodes rest) before r' after' → 1 ≤ length nodes → length nodes ≤ maxNodes
       → (r ≡ r') × (after ≡ after')
   records-same p q some few = agree-both (rw (few-answer nodes rest (length before) some few) at (records-says p)) (write-says q)
-
-  -- Without records, or with too many, it is 9 at 0, and the lent buffer is as it was.
-  pub records-none : {r : Made} {after : List ℕ} → WriteRecords nodes rest before r after → length nodes < 1 → (r ≡ Refused sectionBroken 0) × (after ≡ before)
-  records-none c h = all-kept _ before sectionBroken 0 (records-says c) (none-answer nodes rest (length before) h)
-
-  pub records-many : {r : Made} {after : List ℕ} → WriteRecords nodes rest before r after → maxNodes < length nodes → (r ≡ Refused sectionBroken 0) × (after ≡ before)
-  records-many c h = all-kept _ before sectionBroken 0 (records-says c) (many-answer nodes rest (length before) h)
 
   -- It refuses exactly by its clauses.
   pub records-refuses : {r : Made} {after : List ℕ} → WriteRecords nodes rest before r after → (n p : ℕ) → (r ≡ Refused n p) ↔ RecordsRefuses nodes rest (length before) n p
@@ -129,20 +110,23 @@ records-numbers (no-records h) = here refl
 records-numbers (many-records h) = here refl
 records-numbers (same-bad some few h) = write-numbers h
 
--- `shiulbart_write_records` of the same said r; the lent buffer held before, and then after
-pub record BoardRecords (nodes : List Node) (rest before : List ℕ) (r : Answer) (after : List ℕ) : Type 0 where
-  pub outcome : (r, after) ≡ Board.recordsAnswer nodes rest before
+-- The same table in bytes is bytes.
+same-table-small : (nodes : List Node) (rest : List ℕ) → length nodes ≤ maxNodes → NodesFit (map meant nodes) × Bytes rest → Bytes (sameTable nodes rest)
+same-table-small nodes rest few b = counted-small (length nodes) (nodesBytes (map meant nodes) ++ rest) (omega arith) (bytes-append (nodesBytes (map meant nodes)) rest (nodes-small (map meant nodes) (b .0)) (b .1))
 
--- What it says and what it leaves, by the answer.
-told : {nodes : List Node} {rest before : List ℕ} {r : Answer} {after : List ℕ} → BoardRecords nodes rest before r after
-    → (r ≡ madeAnswer (recordsAnswer nodes rest (length before))) × (after ≡ Meant.bufferAfter before (recordsAnswer nodes rest (length before)))
-unfolding recordsOutcome
-told c = (ap (λ (o : Answer × List ℕ). o .0) (c .outcome), ap (λ (o : Answer × List ℕ). o .1) (c .outcome))
+-- the records are a table's, and w is what the same table in bytes is written to
+pub record RecordsWrote (nodes : List Node) (rest w : List ℕ) : Type 0 where
+  pub some : 1 ≤ length nodes
+  pub few : length nodes ≤ maxNodes
+  pub wrote : Wrote (sameTable nodes rest) w
 
-module _ {nodes : List Node} {rest before : List ℕ} where
-  pub board-records-once : {r r' : Answer} {after after' : List ℕ} → BoardRecords nodes rest before r after → BoardRecords nodes rest before r' after' → (r ≡ r') × (after ≡ after')
-  board-records-once p q = agree-both (told p) (told q)
-
-  -- 9 to 11, 15, 16, 12.
-  pub board-records-tells : {r : Answer} {after : List ℕ} → BoardRecords nodes rest before r after → Tells r (RecordsRefuses nodes rest (length before)) × Keeps r before after
-  board-records-tells c = made-tells _ before (told c) (records-fits nodes rest (length before)) (records-order nodes rest (length before)) (λ n p f. positive (omega arith) (records-numbers f))
+-- `write_records` writes n bytes exactly where the records are a table's, that table and its shape are within the limits, the shape has n bytes, and
+-- the buffer has the room.
+pub records-exact : {nodes : List Node} {rest before after : List ℕ} {r : Made} → WriteRecords nodes rest before r after → (n : ℕ) → (r ≡ Written n) ↔ ((w : List ℕ) × RecordsWrote nodes rest w × (length w ≡ n) × (n ≤ length before))
+records-exact {nodes} {rest} {before} c =
+    writes-exactly (RecordsWrote nodes rest) _ before (λ w h. (made w h, records-fits nodes rest (length before) w h)) (λ w f. few-answer nodes rest (length before) (f .some) (f .few) ∙ wrote-in (f .wrote) (length before)) (records-says c)
+  where
+    made : (w : List ℕ) → recordsAnswer nodes rest (length before) ≡ answered w → RecordsWrote nodes rest w
+    made w =
+        by-count nodes rest (length before) (λ a. a ≡ answered w → RecordsWrote nodes rest w) (λ _. no-answer) (λ _. no-answer) λ some few h.
+        record { some = some; few = few; wrote = write-answered (sameTable nodes rest) (length before) w (same-table-small nodes rest few (c .small)) h }

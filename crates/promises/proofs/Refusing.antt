@@ -1,7 +1,7 @@
 -- Demand 1, over the calls: when a call refuses, with which number and place, and what a lent buffer holds afterwards.
 --     read-refuses .. table-refuses     a call refuses with number n at the place p exactly when a clause of specs/Order.antt gives these
---     joined-rises                      the entries of a joined sheet, which these clauses go by, stand by rising number
 --     read-numbers .. table-numbers     such a number is one of the call's list
+--     positive                          so it is not 0
 --     fill-kept .. table-kept           after a refusal the lent buffer equals its entry
 --     fill-front .. table-front         after an answer of n bytes only its first n differ
 -- Assumes nothing.
@@ -18,14 +18,12 @@ use Rattle.meaning.specs.Refusals.{bufferShort, sheetBroken, secondBroken, sect
 use Rattle.meaning.specs.Shape.{Shape}
 use Rattle.meaning.specs.Reading.{Reading, got, bad, reading}
 use Rattle.meaning.specs.Parts.{Child, part, packedPrim, children, childOf, names}
-use Rattle.meaning.specs.Numbered.{Rising}
-use Rattle.meaning.specs.Sheet.{Sheet, join}
+use Rattle.meaning.specs.Sheet.{Sheet}
 use Rattle.meaning.specs.SheetReading.{readSheet}
 use Rattle.meaning.specs.Answers.{Answer, answered, refused, onto}
 use Rattle.meaning.proofs.Rules.{both}
-use Rattle.meaning.proofs.Faults.{refusal-small}
-use Rattle.meaning.proofs.Join.{join-rising}
-use Rattle.meaning.proofs.SheetBytes.{sheet-read, sheet-refusal}
+use Rattle.meaning.proofs.Faults.{not-bad, refusal-small}
+use Rattle.meaning.proofs.SheetBytes.{sheet-refusal}
 use Rattle.meaning.proofs.TableBytes.{table-refusal}
 use Rattle.meaning.proofs.Answers.{fill-fits, join-fits, buffer-rest, buffer-kept, buffer-length}
 use Rattle.meaning.proofs.TableAnswers.{write-fits, table-fits}
@@ -41,9 +39,8 @@ use Rattle.parts.specs.declared.FoundName.{FoundName}
 use Rattle.parts.specs.declared.FoundName.the-variants as name
 use Rattle.parts.specs.Said.{toldChild, childSaid, nameSaid}
 use Rattle.sheets.specs.declared.Checked.{Checked}
-use Rattle.sheets.specs.declared.Checked.the-variants.{Broken}
 use Rattle.sheets.specs.Said.{checked}
-use Rattle.promises.specs.Order.{readNumbers, PartRefuses, encoding-bad, no-part, deep, long, unfit, no-room, FillRefuses, template-bad, sheet-bad, filled-bad, JoinRefuses, entries-over, entry-bad, bytes-over, sheet-no-room, first-bad, second-bad, joined-bad, WriteRefuses, table-bad, root-bad, TableRefuses, bytes-bad, table-no-room, FrontOnly}
+use Rattle.promises.specs.Order.{readNumbers, PartRefuses, encoding-bad, no-part, deep, long, unfit, no-room, FillRefuses, template-bad, sheet-bad, filled-bad, JoinRefuses, entries-over, entry-bad, bytes-over, sheet-no-room, first-bad, second-bad, joined-bad, WriteRefuses, table-bad, root-bad, TableRefuses, bytes-bad, table-no-room, CheckRefused, FrontOnly}
 use Rattle.promises.proofs.Calls.{Read, ChildOf, NameOf, Check, Fill, Join, Write, Tabled}
 use Rattle.promises.proofs.Says.{read-says, child-says, name-says, check-says, Says, fill-says, join-says, write-says, table-says}
 use Rattle.promises.proofs.Ordered.{fill-order, join-order, write-order, table-order, partAnswer, part-order}
@@ -84,13 +81,13 @@ pub name-refuses : {bytes : List ℕ} {k : ℕ} {r : FoundName} → NameOf bytes
 name-refuses {bytes} {k} c n p = rw (name-says c) (Iff·trans (name-order _ k n p) (part-order names bytes k n p))
 
 -- A sheet is broken where it is refused: with 13.
-checked-order : (sheet : List ℕ) (x : Reading Sheet) → readSheet sheetBroken sheet ≡ x → (p : ℕ) → (checked x ≡ Broken p) ↔ (x ≡ bad sheetBroken p)
-checked-order sheet (got σ v) e p = (λ h. cc, λ h. cc)
-checked-order sheet (bad m q) e p = (λ h. cc (sheet-refusal sheetBroken sheet m q e .0), λ h. cc)
+checked-order : (sheet : List ℕ) (x : Reading Sheet) → readSheet sheetBroken sheet ≡ x → (n p : ℕ) → CheckRefused (checked x) n p ↔ (x ≡ bad n p)
+checked-order sheet (got σ v) e n p = (λ h. absurd h, λ h. absurd (not-bad h))
+checked-order sheet (bad m q) e n p = let i = sheet-refusal sheetBroken sheet m q e .0 in (λ h. cc, λ h. (cc, cc))
 
--- `check` finds a sheet broken exactly where 13 has its place.
-pub check-refuses : {sheet : List ℕ} {r : Checked} → Check sheet r → (p : ℕ) → (r ≡ Broken p) ↔ (readSheet sheetBroken sheet ≡ bad sheetBroken p)
-check-refuses {sheet} c p = rw (check-says c) (checked-order sheet _ refl p)
+-- `check` finds a sheet broken exactly where reading refuses it, with 13 and its place.
+pub check-refuses : {sheet : List ℕ} {r : Checked} → Check sheet r → (n p : ℕ) → CheckRefused r n p ↔ (readSheet sheetBroken sheet ≡ bad n p)
+check-refuses {sheet} c n p = rw (check-says c) (checked-order sheet _ refl n p)
 
 -- What is said by a call that writes is a refusal where its answer is.
 made-order : (a : Answer) (n p : ℕ) → (madeSaid a ≡ Refused n p) ↔ (a ≡ refused n p)
@@ -108,10 +105,6 @@ fill-refuses c = made-refuses (fill-says c .0) (fill-order _ _ _)
 -- So does `join`.
 pub join-refuses : {first second before after : List ℕ} {r : Made} → Join first second before r after → (n p : ℕ) → (r ≡ Refused n p) ↔ JoinRefuses first second (length before) n p
 join-refuses c = made-refuses (join-says c .0) (join-order _ _ _)
-
--- The entries of a joined sheet stand by rising number.
-pub joined-rises : {first second before after : List ℕ} {r : Made} {σ τ : Sheet} {v w : List ℕ} → Join first second before r after → readSheet sheetBroken first ≡ got σ v → readSheet secondBroken second ≡ got τ w → Rising (join σ τ)
-joined-rises {first} {second} c h g = join-rising _ _ (sheet-read sheetBroken first _ _ (c .small .0) h .1 .rising) (sheet-read secondBroken second _ _ (c .small .1) g .1 .rising)
 
 -- `write` refuses exactly by its clauses.
 pub write-refuses : {table before after : List ℕ} {r : Made} → Write table before r after → (n p : ℕ) → (r ≡ Refused n p) ↔ WriteRefuses table (length before) n p
@@ -177,6 +170,16 @@ write-numbers (root-bad h (no-room f l)) = search (here, further) depth 7
 pub table-numbers : {bytes : List ℕ} {room n p : ℕ} → TableRefuses bytes room n p → OneOf n (readNumbers ++ (bufferShort ∷ []))
 table-numbers {bytes} (bytes-bad h) = eight bytes h
 table-numbers (table-no-room h l) = search (here, further) depth 13
+
+-- a list without 0
+abbrev pub Positive : List ℕ → Type 0
+Positive [] = Unit {0}
+Positive (m ∷ ms) = (0 < m) × Positive ms
+
+-- One of a list without 0 is not 0.
+pub positive : {n : ℕ} {ms : List ℕ} → Positive ms → OneOf n ms → 0 < n
+positive a (here e) = rw e (a .0)
+positive a (further h) = positive (a .1) h
 
 -- A refusal leaves the lent buffer as it was.
 pub made-kept : {n p : ℕ} {before after : List ℕ} (a : Answer) → Says a before (Refused n p) after → after ≡ before

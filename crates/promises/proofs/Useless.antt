@@ -1,23 +1,28 @@
--- 01-scope.md, "What every call has to commit to": "Try these useless programs against it." A run is what a call's contract allows (Calls.antt), so each
--- law says, by one example, that no contract allows what the useless program does.
---     refusing-read, refusing-child, refusing-name, refusing-check,
---     refusing-fill, refusing-join, refusing-write, refusing-table,
---     refusing-records     it refuses everything
---     fixed-read, fixed-fill, fixed-join, fixed-write, fixed-table,
---     fixed-records        it gives one fixed shape or sheet
---     wrapped-records      it takes 65,537 records for one
+-- 01-scope.md, "What every call has to commit to": "Try these useless programs against it." A run is what an exported call's contract allows
+-- (Calls.antt), so each law says, by one example, that no contract allows what the useless program does. That there are runs at all: Demand1.antt.
+--     refusing-read, refusing-child, refusing-name, refusing-sheet,
+--     refusing-fill, refusing-join, refusing-write, refusing-records,
+--     refusing-table     it refuses everything
+--     fixed-read, fixed-child, fixed-name, fixed-sheet,
+--     fixed-fill, fixed-join, fixed-write, fixed-records,
+--     fixed-table        it gives one fixed shape or sheet, or one fixed answer
+--     wrapped-records    it takes 65,537 records for one
 --     copying-fill       a fill that copies its template
 --     copying-second     it fills everything in the first stage and copies in the second
 --     copying-join       it joins by copying the first sheet
---     invented-fill, invented-join, invented-write, invented-table     it invents a needed length
---     invented-children, invented-names                                it invents a count of children or names
+--     invented-fill, invented-join, invented-write, invented-records,
+--     invented-table     it invents a needed length
+--     invented-children, invented-names     it invents a count of children or names
 -- Assumes nothing.
-use Prim.Native.Nat.{ℕ, _≤_}
+use Prim.Native.Nat.{ℕ, _≤_, _<_}
 use mathlib.Core.Path.{_≡_, refl, sym, _∙_, ap}
 use mathlib.Core.List.{List, [], _∷_}
+use mathlib.Core.Bool.{Bool, true, false}
 use native.Mathlib.Omega.{arith}
+use lib.Dec.{ltb}
 use lib.ListN.{length, getD, take}
-use Rattle.meaning.specs.Refusals.{bufferShort, sheetBroken, noSuchPart}
+use borrow.Author.Tests.{ltb-true, ltb-false}
+use Rattle.meaning.specs.Refusals.{sectionBroken, bufferShort, sheetBroken, noSuchPart}
 use Rattle.meaning.specs.Numbers.{leb128}
 use Rattle.meaning.specs.Utf8.{charSize, charsSize, wellFormed}
 use Rattle.meaning.specs.Shape.{depth, count}
@@ -30,9 +35,8 @@ use Rattle.meaning.specs.Sheet.{plug, orBlank, entriesBytes, encodings, sheetBy
 use Rattle.meaning.specs.SheetReading.{sum, readEntries, orEntry, readEncodings, readSecond, readSheet}
 use Rattle.meaning.specs.Table.{nodesBytes, linksBytes, namesBytes, tableBytes, nodeShape, shapeIn, namesFrom, joined, withNode, grow}
 use Rattle.meaning.specs.TableReading.{sectionAt, nodesIn, namesIn, goodNode, checkNodes, checkNames, ended, readTable}
-use Rattle.meaning.specs.Answers.{Answer, answered, onto, inRoom, made, allMade, madeSheet, fillAnswer, joinAnswer, writeAnswer, tableAnswer}
-use Rattle.meaning.proofs.Answers.{room-answered, room-enough, room-refused}
-use Rattle.buffers.specs.declared.Made.the-variants.{Written, Refused}
+use Rattle.meaning.specs.Answers as Meant
+use Rattle.meaning.specs.Answers.{onto, inRoom, made, allMade, madeSheet, fillAnswer, joinAnswer, writeAnswer, tableAnswer}
 use Rattle.editor.specs.declared.Node.{Node}
 use Rattle.editor.specs.Records.{recordsAnswer}
 use Rattle.reader.specs.declared.Judgement.the-variants as read
@@ -40,13 +44,15 @@ use Rattle.reader.specs.Said.{said}
 use Rattle.parts.specs.declared.FoundChild.the-variants as child
 use Rattle.parts.specs.declared.FoundName.the-variants as name
 use Rattle.parts.specs.Said.{childSaid, nameSaid}
-use Rattle.sheets.specs.declared.Checked.the-variants.{Sound, Broken}
+use Rattle.sheets.specs.declared.Checked.the-variants.{Sound}
 use Rattle.sheets.specs.Said.{checked}
-use Rattle.promises.proofs.Calls.{Read, ChildOf, NameOf, Check, Fill, Join, Write, Tabled}
-use Rattle.promises.proofs.Says.{Says, read-says, child-says, name-says, check-says, fill-says, join-says, write-says, table-says}
-use Rattle.promises.proofs.Front.{refusal-is, front-is, fill-front-is, join-front-is, write-front-is, table-front-is}
-use Rattle.promises.proofs.Records.{WriteRecords, records-says, records-many}
+use Rattle.answers.specs.declared.Answer.{Answer}
+use Rattle.answers.specs.Answers.{answered, refused}
+use Rattle.promises.specs.Order.{many-records, Answered, Makes}
+use Rattle.promises.proofs.Calls.{BoardRead, BoardChild, BoardName, BoardSheet, BoardFill, BoardJoin, BoardWrite, BoardRecords, BoardTable}
 use Rattle.promises.proofs.Stages.{emptySheet}
+use Rattle.promises.proofs.Below.{numbered, sized, placed, more, read-said, child-said, name-said, sheet-said, fill-makes, join-makes, write-makes, records-makes, table-makes}
+use Rattle.promises.proofs.Demand1.{board-records-tells}
 
 -- The examples' bytes: Int and Float; the Record of M4, a Int, b Array of Bool
 abbrev pub anInt : List ℕ
@@ -89,41 +95,47 @@ ofKind kind = record { kind = kind; a = 0; b = 0 } ∷ []
 abbrev pub noRest : List ℕ
 noRest = 0 ∷ 0 ∷ 0 ∷ 0 ∷ 0 ∷ 0 ∷ []
 
--- a call that writes makes w, whatever room it is lent
-abbrev Makes : (ℕ → Answer) → List ℕ → Type 0
-Makes answer w = (room : ℕ) → answer room ≡ inRoom room w
+-- in every room that there is for it, the answer is w
+abbrev Always : (ℕ → Meant.Answer) → List ℕ → Type 0
+Always answer w = (room : ℕ) → answer room ≡ inRoom room w
 
 -- what the meaning says of the examples
 record Examples : Type 0 where
   int-said : said (reading anInt) ≡ read.Accepted 1 1
   record-said : said (reading aRecord) ≡ read.Accepted 10 3
+  first-child-said : childSaid (reading aRecord) 0 ≡ child.Part 6 1
   child-said : childSaid (reading aRecord) 1 ≡ child.Part 9 1
   no-child-said : childSaid (reading aRecord) 2 ≡ child.Refused noSuchPart 2
+  first-name-said : nameSaid (reading aRecord) 0 ≡ name.Text 5 1
   name-said : nameSaid (reading aRecord) 1 ≡ name.Text 8 1
   no-name-said : nameSaid (reading aRecord) 2 ≡ name.Refused noSuchPart 2
   sheet-said : checked (readSheet sheetBroken zeroAsInt) ≡ Sound 1 1
-  array-made : Makes (fillAnswer blankArray zeroAsInt) (0x60 ∷ [])
-  map-made : Makes (fillAnswer blankMap zeroAsInt) (0x41 ∷ 0x02 ∷ 0x00 ∷ 0x20 ∷ 0x01 ∷ [])
-  map-finished : Makes (fillAnswer (0x41 ∷ 0x02 ∷ 0x00 ∷ 0x20 ∷ 0x01 ∷ []) oneAsInt) (0x65 ∷ [])
-  sheet-made : Makes (joinAnswer zeroAsOne oneAsInt) (0x02 ∷ 0x00 ∷ 0x00 ∷ 0x00 ∷ 0x01 ∷ 0x00 ∷ 0x01 ∷ 0x00 ∷ 0x01 ∷ 0x00 ∷ 0x02 ∷ 0x00 ∷ 0x20 ∷ 0x20 ∷ [])
-  empty-made : Makes (joinAnswer emptySheet emptySheet) emptySheet
-  int-made : Makes (writeAnswer intTable) anInt
-  float-made : Makes (writeAnswer floatTable) aFloat
-  int-record-made : Makes (recordsAnswer (ofKind 0) noRest) anInt
-  float-record-made : Makes (recordsAnswer (ofKind 1) noRest) aFloat
-  int-table-made : Makes (tableAnswer anInt) intTable
-  float-table-made : Makes (tableAnswer aFloat) floatTable
+  empty-said : checked (readSheet sheetBroken emptySheet) ≡ Sound 0 0
+  array-made : Always (fillAnswer blankArray zeroAsInt) (0x60 ∷ [])
+  map-made : Always (fillAnswer blankMap zeroAsInt) (0x41 ∷ 0x02 ∷ 0x00 ∷ 0x20 ∷ 0x01 ∷ [])
+  map-finished : Always (fillAnswer (0x41 ∷ 0x02 ∷ 0x00 ∷ 0x20 ∷ 0x01 ∷ []) oneAsInt) (0x65 ∷ [])
+  sheet-made : Always (joinAnswer zeroAsOne oneAsInt) (0x02 ∷ 0x00 ∷ 0x00 ∷ 0x00 ∷ 0x01 ∷ 0x00 ∷ 0x01 ∷ 0x00 ∷ 0x01 ∷ 0x00 ∷ 0x02 ∷ 0x00 ∷ 0x20 ∷ 0x20 ∷ [])
+  empty-made : Always (joinAnswer emptySheet emptySheet) emptySheet
+  int-made : Always (writeAnswer intTable) anInt
+  float-made : Always (writeAnswer floatTable) aFloat
+  int-record-made : Always (recordsAnswer (ofKind 0) noRest) anInt
+  float-record-made : Always (recordsAnswer (ofKind 1) noRest) aFloat
+  int-table-made : Always (tableAnswer anInt) intTable
+  float-table-made : Always (tableAnswer aFloat) floatTable
 
 computed : Examples
 unfolding leb128 charSize charsSize wellFormed depth count code primOf classOf asPrim arrayBytes mapBytes blankBytes encode next readCount readText hasShort finish readFields readPayload readLong readClass readShape atEnd reading fieldShapes children fieldNames names fieldItems items nameBytes shapeBytes listBytes listStart childOf find put over each plug orBlank entriesBytes encodings sheetBytes sum readEntries orEntry readEncodings readSecond readSheet nodesBytes linksBytes namesBytes tableBytes nodeShape shapeIn namesFrom joined withNode grow sectionAt nodesIn namesIn goodNode checkNodes checkNames ended readTable onto made allMade madeSheet fillAnswer joinAnswer writeAnswer tableAnswer recordsAnswer
 computed = record {
   int-said = refl;
   record-said = refl;
+  first-child-said = refl;
   child-said = refl;
   no-child-said = refl;
+  first-name-said = refl;
   name-said = refl;
   no-name-said = refl;
   sheet-said = refl;
+  empty-said = refl;
   array-made = λ room. refl;
   map-made = λ room. refl;
   map-finished = λ room. refl;
@@ -137,120 +149,143 @@ computed = record {
   float-table-made = λ room. refl;
 }
 
-module _ {answer : ℕ → Answer} (w : List ℕ) (m : Makes answer w) (before : List ℕ) where
-  -- What is made is what is answered.
-  made-is : {v : List ℕ} → answer (length before) ≡ answered v → v ≡ w
-  made-is {v} h = sym (room-answered (length before) w v (sym (m (length before)) ∙ h) .0)
+-- What is said is no refusal, if its number is 0.
+said-refused : {r : Answer} {place length extra : ℕ} → r ≡ answered place length extra → 0 < r .number → ⊥
+said-refused e l = let z = numbered e in omega arith
 
-  -- Where there is room for it, it is not refused.
-  not-refused : {n p : ℕ} {after : List ℕ} → Says (answer (length before)) before (Refused n p) after → length w ≤ length before → ⊥
-  not-refused s h =
-      let e = sym (refusal-is _ before s) ∙ m (length before) ∙ room-enough (length before) w h in
-      let z : _≡_ {A = ℕ} 0 1 = cc in
-      omega arith
+module _ {w before after : List ℕ} {r : Answer} (m : Makes w before r after) where
+  -- What is made is not refused, where there is room for it.
+  made-refused : length w ≤ length before → 0 < r .number → ⊥
+  made-refused h = said-refused (m .enough h .0)
 
-  -- 12 carries its length.
-  needs : {n : ℕ} {after : List ℕ} → Says (answer (length before)) before (Refused bufferShort n) after → n ≡ length w
-  needs {n} s = sym (room-refused (length before) w n (sym (m (length before)) ∙ refusal-is _ before s) .0)
+  -- What is answered is what is made,
+  made-is : Answered r → take (r .length) after ≡ w
+  made-is z = go (ltb (length before) (length w)) refl
+    where
+      go : (t : Bool) → ltb (length before) (length w) ≡ t → take (r .length) after ≡ w
+      go true e = let q = numbered (m .short (ltb-true _ _ e) .0) in absurd (omega arith)
+      go false e = let f = m .enough (ltb-false _ _ e) in rw (sized (f .0)) (f .1)
 
-module _ {n p : ℕ} where
-  -- Refuses everything: `read` may not refuse Int,
-  pub refusing-read : Read anInt (read.Refused n p) → ⊥
-  refusing-read c = let e = read-says c ∙ computed .int-said in let z : _≡_ {A = ℕ} 0 1 = cc in omega arith
+  -- and 12 carries its length.
+  made-needs : r .number ≡ bufferShort → r .place ≡ length w
+  made-needs n = go (ltb (length before) (length w)) refl
+    where
+      go : (t : Bool) → ltb (length before) (length w) ≡ t → r .place ≡ length w
+      go true e = placed (m .short (ltb-true _ _ e) .0)
+      go false e = let q = numbered (m .enough (ltb-false _ _ e) .0) in absurd (omega arith)
 
-  -- nor `child` and `name` child 1 and name 1 of a Record of two fields,
-  pub refusing-child : ChildOf aRecord 1 (child.Refused n p) → ⊥
-  refusing-child c = let e = child-says c ∙ computed .child-said in let z : _≡_ {A = ℕ} 0 1 = cc in omega arith
+module _ {r : Answer} where
+  -- Refuses everything: `shiulbart_read` may not refuse Int,
+  pub refusing-read : BoardRead anInt r → 0 < r .number → ⊥
+  refusing-read c = said-refused (read-said c (computed .int-said))
 
-  pub refusing-name : NameOf aRecord 1 (name.Refused n p) → ⊥
-  refusing-name c = let e = name-says c ∙ computed .name-said in let z : _≡_ {A = ℕ} 0 1 = cc in omega arith
+  -- nor `shiulbart_child` and `shiulbart_name` child 1 and name 1 of a Record of two fields,
+  pub refusing-child : BoardChild aRecord 1 r → 0 < r .number → ⊥
+  refusing-child c = said-refused (child-said c (computed .child-said))
 
--- nor `check` a sheet of one entry,
-pub refusing-check : {p : ℕ} → Check zeroAsInt (Broken p) → ⊥
-refusing-check c = let e = check-says c ∙ computed .sheet-said in let z : _≡_ {A = ℕ} 0 1 = cc in omega arith
+  pub refusing-name : BoardName aRecord 1 r → 0 < r .number → ⊥
+  refusing-name c = said-refused (name-said c (computed .name-said))
 
-module _ {before after : List ℕ} {n p : ℕ} where
-  -- nor, given the room, `fill` M13, `join` M14, `write` a table of Int, `write_records` its record and `to_table` an Int.
-  pub refusing-fill : Fill blankArray zeroAsInt before (Refused n p) after → 1 ≤ length before → ⊥
-  refusing-fill c = not-refused _ (computed .array-made) before (fill-says c)
+  -- nor `shiulbart_sheet` a sheet of one entry,
+  pub refusing-sheet : BoardSheet zeroAsInt r → 0 < r .number → ⊥
+  refusing-sheet c = said-refused (sheet-said c (computed .sheet-said))
 
-  pub refusing-join : Join zeroAsOne oneAsInt before (Refused n p) after → 14 ≤ length before → ⊥
-  refusing-join c = not-refused _ (computed .sheet-made) before (join-says c)
+  module _ {before after : List ℕ} where
+    -- nor, given the room, `shiulbart_fill` M13, `shiulbart_join` M14, `shiulbart_write` a table of Int, `shiulbart_write_records` its record and
+    -- `shiulbart_table` an Int.
+    pub refusing-fill : BoardFill blankArray zeroAsInt before r after → 1 ≤ length before → 0 < r .number → ⊥
+    refusing-fill c = made-refused (fill-makes c (computed .array-made))
 
-  pub refusing-write : Write intTable before (Refused n p) after → 1 ≤ length before → ⊥
-  refusing-write c = not-refused _ (computed .int-made) before (write-says c)
+    pub refusing-join : BoardJoin zeroAsOne oneAsInt before r after → 14 ≤ length before → 0 < r .number → ⊥
+    refusing-join c = made-refused (join-makes c (computed .sheet-made))
 
-  pub refusing-records : WriteRecords (ofKind 0) noRest before (Refused n p) after → 1 ≤ length before → ⊥
-  refusing-records c = not-refused _ (computed .int-record-made) before (records-says c)
+    pub refusing-write : BoardWrite intTable before r after → 1 ≤ length before → 0 < r .number → ⊥
+    refusing-write c = made-refused (write-makes c (computed .int-made))
 
-  pub refusing-table : Tabled anInt before (Refused n p) after → 14 ≤ length before → ⊥
-  refusing-table c = not-refused _ (computed .int-table-made) before (table-says c)
+    pub refusing-records : BoardRecords (ofKind 0) noRest before r after → 1 ≤ length before → 0 < r .number → ⊥
+    refusing-records c = made-refused (records-makes c (computed .int-record-made))
 
--- Gives one fixed shape or sheet: `read` may not say the same of Int and of a Record,
-pub fixed-read : {l d : ℕ} → Read anInt (read.Accepted l d) → Read aRecord (read.Accepted l d) → ⊥
-fixed-read c c′ = let e = sym (computed .int-said) ∙ sym (read-says c) ∙ read-says c′ ∙ computed .record-said in let z : _≡_ {A = ℕ} 1 10 = cc in omega arith
+    pub refusing-table : BoardTable anInt before r after → 14 ≤ length before → 0 < r .number → ⊥
+    refusing-table c = made-refused (table-makes c (computed .int-table-made))
+
+  -- Gives one fixed answer: `shiulbart_read` may not say the same of Int and of a Record,
+  pub fixed-read : BoardRead anInt r → BoardRead aRecord r → ⊥
+  fixed-read c c′ = let e = sized (sym (read-said c (computed .int-said)) ∙ read-said c′ (computed .record-said)) in omega arith
+
+  -- nor `shiulbart_child` and `shiulbart_name` of a Record's two children and names,
+  pub fixed-child : BoardChild aRecord 0 r → BoardChild aRecord 1 r → ⊥
+  fixed-child c c′ = let e = placed (sym (child-said c (computed .first-child-said)) ∙ child-said c′ (computed .child-said)) in omega arith
+
+  pub fixed-name : BoardName aRecord 0 r → BoardName aRecord 1 r → ⊥
+  fixed-name c c′ = let e = placed (sym (name-said c (computed .first-name-said)) ∙ name-said c′ (computed .name-said)) in omega arith
+
+  -- nor `shiulbart_sheet` of a sheet of one entry and of the empty sheet.
+  pub fixed-sheet : BoardSheet zeroAsInt r → BoardSheet emptySheet r → ⊥
+  fixed-sheet c c′ = let e = more (sym (sheet-said c (computed .sheet-said)) ∙ sheet-said c′ (computed .empty-said)) in omega arith
 
 -- Equal bytes have the same byte i.
 byte : {v w x y : List ℕ} (i : ℕ) → v ≡ w → x ≡ y → v ≡ x → getD w i 0 ≡ getD y i 0
 byte i p q h = ap (λ (l : List ℕ). getD l i 0) (sym p ∙ h ∙ q)
 
-module _ {b a b′ a′ : List ℕ} {n n′ : ℕ} where
-  -- nor `fill` make the same of two templates,
-  pub fixed-fill : Fill blankArray zeroAsInt b (Written n) a → Fill blankMap zeroAsInt b′ (Written n′) a′ → take n a ≡ take n′ a′ → ⊥
-  fixed-fill c c′ h = let z : _≡_ {A = ℕ} 0x60 0x41 = byte 0 (made-is _ (computed .array-made) b (fill-front-is c)) (made-is _ (computed .map-made) b′ (fill-front-is c′)) h in omega arith
+module _ {b a b′ a′ : List ℕ} {r r′ : Answer} where
+  -- Gives one fixed shape or sheet: `shiulbart_fill` may not make the same of two templates,
+  pub fixed-fill : BoardFill blankArray zeroAsInt b r a → Answered r → BoardFill blankMap zeroAsInt b′ r′ a′ → Answered r′ → take (r .length) a ≡ take (r′ .length) a′ → ⊥
+  fixed-fill c z c′ z′ h = let e = byte 0 (made-is (fill-makes c (computed .array-made)) z) (made-is (fill-makes c′ (computed .map-made)) z′) h in omega arith
 
-  -- `join` of two pairs of sheets,
-  pub fixed-join : Join zeroAsOne oneAsInt b (Written n) a → Join emptySheet emptySheet b′ (Written n′) a′ → take n a ≡ take n′ a′ → ⊥
-  fixed-join c c′ h = let z : _≡_ {A = ℕ} 2 0 = byte 0 (made-is _ (computed .sheet-made) b (join-front-is c)) (made-is _ (computed .empty-made) b′ (join-front-is c′)) h in omega arith
+  -- `shiulbart_join` of two pairs of sheets,
+  pub fixed-join : BoardJoin zeroAsOne oneAsInt b r a → Answered r → BoardJoin emptySheet emptySheet b′ r′ a′ → Answered r′ → take (r .length) a ≡ take (r′ .length) a′ → ⊥
+  fixed-join c z c′ z′ h = let e = byte 0 (made-is (join-makes c (computed .sheet-made)) z) (made-is (join-makes c′ (computed .empty-made)) z′) h in omega arith
 
-  -- `write` of two tables, `write_records` of two records, and `to_table` of two encodings.
-  pub fixed-write : Write intTable b (Written n) a → Write floatTable b′ (Written n′) a′ → take n a ≡ take n′ a′ → ⊥
-  fixed-write c c′ h = let z : _≡_ {A = ℕ} 0x20 0x21 = byte 0 (made-is _ (computed .int-made) b (write-front-is c)) (made-is _ (computed .float-made) b′ (write-front-is c′)) h in omega arith
+  -- `shiulbart_write` of two tables, `shiulbart_write_records` of two records, and `shiulbart_table` of two encodings.
+  pub fixed-write : BoardWrite intTable b r a → Answered r → BoardWrite floatTable b′ r′ a′ → Answered r′ → take (r .length) a ≡ take (r′ .length) a′ → ⊥
+  fixed-write c z c′ z′ h = let e = byte 0 (made-is (write-makes c (computed .int-made)) z) (made-is (write-makes c′ (computed .float-made)) z′) h in omega arith
 
-  pub fixed-records : WriteRecords (ofKind 0) noRest b (Written n) a → WriteRecords (ofKind 1) noRest b′ (Written n′) a′ → take n a ≡ take n′ a′ → ⊥
-  fixed-records c c′ h =
-      let z : _≡_ {A = ℕ} 0x20 0x21 = byte 0 (made-is _ (computed .int-record-made) b (front-is _ b (records-says c) .0)) (made-is _ (computed .float-record-made) b′ (front-is _ b′ (records-says c′) .0)) h in
-      omega arith
+  pub fixed-records : BoardRecords (ofKind 0) noRest b r a → Answered r → BoardRecords (ofKind 1) noRest b′ r′ a′ → Answered r′ → take (r .length) a ≡ take (r′ .length) a′ → ⊥
+  fixed-records c z c′ z′ h = let e = byte 0 (made-is (records-makes c (computed .int-record-made)) z) (made-is (records-makes c′ (computed .float-record-made)) z′) h in omega arith
 
-  pub fixed-table : Tabled anInt b (Written n) a → Tabled aFloat b′ (Written n′) a′ → take n a ≡ take n′ a′ → ⊥
-  fixed-table c c′ h = let z : _≡_ {A = ℕ} 0 1 = byte 2 (made-is _ (computed .int-table-made) b (table-front-is c)) (made-is _ (computed .float-table-made) b′ (table-front-is c′)) h in omega arith
+  pub fixed-table : BoardTable anInt b r a → Answered r → BoardTable aFloat b′ r′ a′ → Answered r′ → take (r .length) a ≡ take (r′ .length) a′ → ⊥
+  fixed-table c z c′ z′ h = let e = byte 2 (made-is (table-makes c (computed .int-table-made)) z) (made-is (table-makes c′ (computed .float-table-made)) z′) h in omega arith
 
   -- Fills everything in the first stage and copies in the second: after Variable 0 became Int, filling Variable 1 may not leave the same bytes.
-  pub copying-second : Fill blankMap zeroAsInt b (Written n) a → Fill (take n a) oneAsInt b′ (Written n′) a′ → take n′ a′ ≡ take n a → ⊥
-  copying-second c c′ h =
-      let e = made-is _ (computed .map-made) b (fill-front-is c) in
-      let z : _≡_ {A = ℕ} 0x65 0x41 = byte 0 (made-is _ (computed .map-finished) b′ (rw e at (fill-front-is c′))) e h in
+  pub copying-second : BoardFill blankMap zeroAsInt b r a → Answered r → BoardFill (take (r .length) a) oneAsInt b′ r′ a′ → Answered r′ → take (r′ .length) a′ ≡ take (r .length) a → ⊥
+  copying-second c z c′ z′ h =
+      let e = made-is (fill-makes c (computed .map-made)) z in
+      let f : take (r′ .length) a′ ≡ 0x65 ∷ [] = made-is (fill-makes c′ (rw e (computed .map-finished))) z′ in
+      let q = byte 0 f e h in
       omega arith
 
-module _ {before after : List ℕ} {n : ℕ} where
+module _ {before after : List ℕ} {r : Answer} where
   -- A fill that copies its template: M13 may not be left as it is. (It would be the same in one stage as in two, so demand 3 alone allows it.)
-  pub copying-fill : Fill blankArray zeroAsInt before (Written n) after → take n after ≡ blankArray → ⊥
-  copying-fill c h = let z : _≡_ {A = ℕ} 0x60 0x40 = byte 0 (made-is _ (computed .array-made) before (fill-front-is c)) refl h in omega arith
+  pub copying-fill : BoardFill blankArray zeroAsInt before r after → Answered r → take (r .length) after ≡ blankArray → ⊥
+  copying-fill c z h = let e = byte 0 (made-is (fill-makes c (computed .array-made)) z) refl h in omega arith
 
   -- Joins by copying the first sheet: M14 may not be the first sheet.
-  pub copying-join : Join zeroAsOne oneAsInt before (Written n) after → take n after ≡ zeroAsOne → ⊥
-  copying-join c h = let z : _≡_ {A = ℕ} 2 1 = byte 0 (made-is _ (computed .sheet-made) before (join-front-is c)) refl h in omega arith
+  pub copying-join : BoardJoin zeroAsOne oneAsInt before r after → Answered r → take (r .length) after ≡ zeroAsOne → ⊥
+  copying-join c z h = let e = byte 0 (made-is (join-makes c (computed .sheet-made)) z) refl h in omega arith
 
   -- Invents a needed length: what 12 carries is the length of what would have been made, and no other number.
-  pub invented-fill : Fill blankArray zeroAsInt before (Refused bufferShort n) after → n ≡ 1
-  invented-fill c = needs _ (computed .array-made) before (fill-says c)
+  pub invented-fill : BoardFill blankArray zeroAsInt before r after → r .number ≡ bufferShort → r .place ≡ 1
+  invented-fill c = made-needs (fill-makes c (computed .array-made))
 
-  pub invented-join : Join zeroAsOne oneAsInt before (Refused bufferShort n) after → n ≡ 14
-  invented-join c = needs _ (computed .sheet-made) before (join-says c)
+  pub invented-join : BoardJoin zeroAsOne oneAsInt before r after → r .number ≡ bufferShort → r .place ≡ 14
+  invented-join c = made-needs (join-makes c (computed .sheet-made))
 
-  pub invented-write : Write intTable before (Refused bufferShort n) after → n ≡ 1
-  invented-write c = needs _ (computed .int-made) before (write-says c)
+  pub invented-write : BoardWrite intTable before r after → r .number ≡ bufferShort → r .place ≡ 1
+  invented-write c = made-needs (write-makes c (computed .int-made))
 
-  pub invented-table : Tabled anInt before (Refused bufferShort n) after → n ≡ 14
-  invented-table c = needs _ (computed .int-table-made) before (table-says c)
+  pub invented-records : BoardRecords (ofKind 0) noRest before r after → r .number ≡ bufferShort → r .place ≡ 1
+  invented-records c = made-needs (records-makes c (computed .int-record-made))
 
--- Invents a child count: of a Record of two fields, what 18 carries is 2, and no other number.
-pub invented-children : {n : ℕ} → ChildOf aRecord 2 (child.Refused noSuchPart n) → n ≡ 2
-invented-children c = let e = child-says c ∙ computed .no-child-said in cc
+  pub invented-table : BoardTable anInt before r after → r .number ≡ bufferShort → r .place ≡ 14
+  invented-table c = made-needs (table-makes c (computed .int-table-made))
 
-pub invented-names : {n : ℕ} → NameOf aRecord 2 (name.Refused noSuchPart n) → n ≡ 2
-invented-names c = let e = name-says c ∙ computed .no-name-said in cc
+  -- Takes 65,537 records for one, their number cut to two bytes: so many are refused, however the rest may fit one.
+  pub wrapped-records : {nodes : List Node} {rest : List ℕ} → length nodes ≡ 65537 → BoardRecords nodes rest before r after → Answered r → ⊥
+  wrapped-records e c z = let f = board-records-tells c .0 sectionBroken 0 .1 (many-records (omega arith)) .1 in omega arith
 
--- Takes 65,537 records for one, their number cut to two bytes: so many are refused, however the rest may fit one.
-pub wrapped-records : {nodes : List Node} {rest before after : List ℕ} {n : ℕ} → length nodes ≡ 65537 → WriteRecords nodes rest before (Written n) after → ⊥
-wrapped-records e c = let r = records-many c (omega arith) .0 in let z : _≡_ {A = ℕ} 0 1 = cc in omega arith
+-- Invents a count of children or of names: of a Record of two fields, what 18 carries is 2, and no other number.
+pub invented-children : {r : Answer} → BoardChild aRecord 2 r → r ≡ refused noSuchPart 2
+invented-children c = child-said c (computed .no-child-said)
+
+pub invented-names : {r : Answer} → BoardName aRecord 2 r → r ≡ refused noSuchPart 2
+invented-names c = name-said c (computed .no-name-said)
