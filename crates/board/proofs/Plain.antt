@@ -1,8 +1,9 @@
--- The contracts over a slice of records as plain facts. Of every other call the toolchain makes `Pre` and `Post` itself; it makes none where a
--- parameter is a slice of records. Here they are made the same way: `search` reads the contract's own clause, so nothing is said of it here, and a
--- contract that said less would be read as less.
---     RecordsPre, RecordsPost               what `write_records` asks, and what it says
---     BoardRecordsPre, BoardRecordsPost     the same of `shiulbart_write_records`
+-- What the calls on records say, as plain facts. Of every other call the toolchain reads what the contract says itself (`Post`, in the call's
+-- `Reads`); it does not where a parameter is a slice of records. Here it is read the same way: `search` goes over the contract's own clause, so
+-- nothing is said of it here, and a contract that said less would be read as less.
+--     Parameters           what is lent: the records, the rest of their table, and the buffer
+--     RecordsPost          what `write_records` says
+--     BoardRecordsPost     what `shiulbart_write_records` says
 -- Assumes nothing.
 use Prim.Native.Nat.{ℕ}
 use mathlib.Core.Path.{refl}
@@ -23,19 +24,12 @@ use Rattle.board.proofs.shiulbart_write_records as board-records
 abbrev Facts : {P : (w : World) → Pr w} → Read (λ w. emp (w .𝓤)) no-know P → Type 0
 Facts r = AllOf (r .owes)
 
--- the records, the rest of their table and the buffer that are lent
 abbrev pub Parameters : Type 0
 Parameters = RefT (List Node) × (RefT (List ℕ) × (RefT (List ℕ) × Unit {0}))
 
 module _ (κs : Lfts 3) (a : Parameters) where
-  abbrev pub RecordsPre : Type 0
-  RecordsPre = Facts (all-models (λ w. records.clauses (w .𝓤) (w .H) (w .𝓖 .A) (w .𝓜 .mem) (w .𝓡 .run) κs a .requires tt) (λ w. search reads) (λ w. refl) (λ w. refl) (λ w. refl))
-
   abbrev pub RecordsPost : Made → Parameters → Type 0
   RecordsPost r s = Facts (all-models (λ w. records.clauses (w .𝓤) (w .H) (w .𝓖 .A) (w .𝓜 .mem) (w .𝓡 .run) κs a .ensures tt r s) (λ w. search reads) (λ w. refl) (λ w. refl) (λ w. refl))
-
-  abbrev pub BoardRecordsPre : Type 0
-  BoardRecordsPre = Facts (all-models (λ w. board-records.clauses (w .𝓤) (w .H) (w .𝓖 .A) (w .𝓜 .mem) (w .𝓡 .run) κs a .requires tt) (λ w. search reads) (λ w. refl) (λ w. refl) (λ w. refl))
 
   abbrev pub BoardRecordsPost : Answer → Parameters → Type 0
   BoardRecordsPost r s = Facts (all-models (λ w. board-records.clauses (w .𝓤) (w .H) (w .𝓖 .A) (w .𝓜 .mem) (w .𝓡 .run) κs a .ensures tt r s) (λ w. search reads) (λ w. refl) (λ w. refl) (λ w. refl))

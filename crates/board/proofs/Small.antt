@@ -5,6 +5,7 @@
 --     exported-sheet     of a sheet
 --     made-fits          that it fits, of fill, join, the writer and the way back
 --     records-fit        the same of the writer of records
+--     Given              an answer that fits, and is the one to be given
 -- Assumes nothing.
 use Prim.Native.Nat.{ℕ, _≤_, _<_}
 use mathlib.Core.Path.{_≡_, refl}

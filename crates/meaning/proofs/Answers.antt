@@ -3,18 +3,18 @@
 --     fill-answers, join-answers       they do answer then, where the lent buffer has the room
 --     fill-short, join-short           they refuse with 12 then, where it has not
 --     two-fills                        two fills are one fill with the joined sheet
---     other-pairing, three-joins       three sheets are joined alike however they are paired
+--     other-pairing, first-pairing, three-joins     three sheets are joined alike however they are paired
 --     one-joining                      whatever the room, two sheets are joined to the same bytes
 --     fill-by-empty, join-empty-first, join-empty-second     the empty sheet changes no shape and no sheet
 --     fill-fits, join-fits             an answer is no longer than the lent buffer
 --     buffer-front, buffer-rest, buffer-kept, buffer-length     what the lent buffer holds afterwards
 --     fill-needs, join-needs           the length that 12 carries is needed, and enough
---     by-onto, made-answered, room-answered     what is answered, taken apart
+--     not-answered, by-onto, made-answered, room-answered     what is answered, taken apart
 --     by-read, by-made, room-refused            what is refused with 12, taken apart
 --     made-fits, room-enough, room-lacks        what is answered or refused
 -- Assumes nothing.
 use Prim.Native.Nat.{ℕ, _≤_, _<_, zero-le}
-use mathlib.Core.Path.{_≡_, refl, sym, _∙_}
+use mathlib.Core.Path.{_≡_, refl, sym, _∙_, ap}
 use mathlib.Core.Bool.{Bool, true, false}
 use mathlib.Core.List.{List, [], _∷_}
 use native.Mathlib.Omega.{arith}
@@ -41,7 +41,7 @@ use Rattle.meaning.proofs.Join.{ProperEntry, fill-join, fill-empty, fil
 use Rattle.meaning.proofs.SheetBytes.{read-sheet, sheet-read, same-sheet-bytes, sheet-small, sheet-refusal}
 
 -- A refusal is no answer.
-not-answered : {n p : ℕ} {w : List ℕ} → refused n p ≡ answered w → ⊥
+pub not-answered : {n p : ℕ} {w : List ℕ} → refused n p ≡ answered w → ⊥
 not-answered h = let z : _≡_ {A = ℕ} 0 1 = cc in omega arith
 
 -- One answer has one list of bytes.
@@ -273,6 +273,25 @@ other-pairing s₁ s₂ s₃ r₁ r₂ r₃ room w₁₂ w₂₃ w b₁ b₂ b�
     paired =
         rw (one-sheet (a .σ-within) (i .made-within) (a .σ-is) (i .is), one-sheet (k .σ-within) (i .τ-within) (k .σ-is) (i .τ-is), one-sheet (k .τ-within) (a .τ-within) (k .τ-is) (a .τ-is))
         (join-assoc (i .σ) (i .τ) (a .τ) (i .σ-within .rising) (i .τ-within .rising) (a .τ-within .rising))
+
+-- The same the other way round: where the last two, the first with those, and the first two are joined, the first two joined with the third make the
+-- same bytes.
+pub first-pairing : {s₁ s₂ s₃ w₁₂ w₂₃ w : List ℕ} → Joined s₁ s₂ w₁₂ → Joined s₂ s₃ w₂₃ → Joined s₁ w₂₃ w → Joined w₁₂ s₃ w
+first-pairing i k a = record {
+  σ = join (i .σ) (i .τ);
+  τ = k .τ;
+  σ-is = i .is;
+  τ-is = k .τ-is;
+  σ-within = i .made-within;
+  τ-within = k .τ-within;
+  made-within = rw paired (a .made-within);
+  is = a .is ∙ ap sheetBytes (sym paired);
+}
+  where
+    paired : join (join (i .σ) (i .τ)) (k .τ) ≡ join (a .σ) (a .τ)
+    paired =
+        rw (one-sheet (a .σ-within) (i .σ-within) (a .σ-is) (i .σ-is), one-sheet (a .τ-within) (k .made-within) (a .τ-is) (k .is), one-sheet (k .σ-within) (i .τ-within) (k .σ-is) (i .τ-is))
+        (join-assoc (i .σ) (i .τ) (k .τ) (i .σ-within .rising) (i .τ-within .rising) (k .τ-within .rising))
 
 -- Whatever the room, two sheets are joined to the same bytes.
 pub one-joining : (first second : List ℕ) (r r′ : ℕ) (w w′ : List ℕ) → Bytes first → Bytes second → joinAnswer first second r ≡ answered w → joinAnswer first second r′ ≡ answered w′ → w ≡ w′

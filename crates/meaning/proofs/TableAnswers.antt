@@ -5,11 +5,11 @@
 --     write-fits, table-fits             an answer is no longer than the lent buffer
 --     write-needs, table-needs           the length that 12 carries is needed, and enough
 --     write-small, table-small           what they answer is small
---     made-writes, table-write           a table that the way back made comes back byte for byte
---     write-table, same-meaning          what the writer made has a table, which means the same
+--     table-write                        what the way back made of bytes, the writer makes into those bytes
+--     write-table, same-meaning          what the writer made, the way back makes into a table, which means the same
 -- Assumes nothing.
 use Prim.Native.Nat.{ℕ, _-_, _≤_, _<_}
-use mathlib.Core.Path.{_≡_, sym, _∙_, ap}
+use mathlib.Core.Path.{_≡_, refl, sym, _∙_}
 use mathlib.Core.List.{List}
 use native.Mathlib.Omega.{arith}
 use lib.ListN.{length}
@@ -154,19 +154,19 @@ table-small bytes room b =
     (λ s w p. room-small room _ (omega (arith, made-length s (encode-reading bytes s w b p .1))))
     (λ n p q. let f = refusal-small bytes n p q in (omega (arith, f .known), omega (arith, f .inside)))
 
--- The writer gives the encoding of a shape within the limits back from its table, given the room.
-pub made-writes : (s : Shape) (room : ℕ) → Within s → length (encode s) ≤ room → writeAnswer (tableBytes (tableOf s)) room ≡ answered (encode s)
-made-writes s room h k = let e = table-shape s in write-answers (tableOf s) room (made-within s h) (rw e h) (rw e k) ∙ rw e
+-- What the way back makes of bytes means what they are: the writer makes those bytes of it.
+pub table-write : {bytes w : List ℕ} → Tabled bytes w → Wrote w bytes
+table-write t = record {
+  T = tableOf (t .s);
+  T-is = t .is;
+  T-within = made-within (t .s) (t .s-within);
+  made-within = rw (table-shape (t .s)) (t .s-within);
+  is = rw (table-shape (t .s)) (t .s-is);
+}
 
--- So what the way back answered, it turns into the bytes that the table was made of, byte for byte.
-pub table-write : (bytes : List ℕ) (r room : ℕ) (w : List ℕ) → Bytes bytes → tableAnswer bytes r ≡ answered w → length bytes ≤ room → writeAnswer w room ≡ answered bytes
-table-write bytes r room w b h k =
-    let a = table-answered bytes r w b h in
-    ap (λ (v : List ℕ). writeAnswer v room) (a .is) ∙ made-writes (a .s) room (a .s-within) (omega (arith, ap length (a .s-is))) ∙ ap answered (sym (a .s-is))
-
--- What the writer answered, the way back turns into the table of the shape that the first table means, given the room,
-pub write-table : (table w : List ℕ) (room : ℕ) (a : Wrote table w) → length (tableBytes (tableOf (tableShape (a .T)))) ≤ room → tableAnswer w room ≡ answered (tableBytes (tableOf (tableShape (a .T))))
-write-table table w room a k = ap (λ (v : List ℕ). tableAnswer v room) (a .is) ∙ table-answers (tableShape (a .T)) room (a .made-within) k
+-- What the writer makes of a table, the way back makes into the table of its shape,
+pub write-table : {table w : List ℕ} (a : Wrote table w) → Tabled w (tableBytes (tableOf (tableShape (a .T))))
+write-table a = record { s = tableShape (a .T); s-is = a .is; s-within = a .made-within; is = refl }
 
 -- which means the same shape.
 pub same-meaning : (T : Table) → tableShape (tableOf (tableShape T)) ≡ tableShape T

@@ -9,7 +9,7 @@ use mathlib.Core.Option.{Option, none, some}
 use mathlib.Core.List.{List, [], _∷_, _++_}
 use native.Mathlib.Omega.{arith}
 use lib.ListN.{length, length-append}
-use Rattle.meaning.specs.Limits.{maxNodes, maxLinks, maxNames, maxText}
+use Rattle.meaning.specs.Limits.{maxNodes, maxLinks, maxNames, maxText, longestMade}
 use Rattle.meaning.specs.Shape.{Text, Primitive, Sort, shape, fields, parameters, Tree, prim, blank, arrayOf, mapOf, recordOf, functionOf, symbolOf, noFields, field, noParameters, parameter, Shape}
 use Rattle.meaning.specs.FirstByte.{code, map}
 use Rattle.meaning.specs.Encode.{sized, asPrim, arrayBytes, mapBytes, textsBytes, encode}
@@ -156,9 +156,6 @@ unfolding joined
 table-of-length s = rw (table-length (tableOf s)) (omega (arith, sizes s emptyTable .paid, sizes s emptyTable .linked))
 
 -- "Every accepted encoding has a table within these, of at most 61,448 bytes."
-abbrev pub longestMade : ℕ
-longestMade = 61448
-
 pub made-length : (s : Shape) → Within s → length (tableBytes (tableOf s)) ≤ longestMade
 made-length s h = omega (arith, table-of-length s, h .short)
 

@@ -21,6 +21,10 @@ maxNames = 2048
 abbrev pub maxText : ℕ
 maxText = 2048
 
+-- "Every accepted encoding has a table within these, of at most 61,448 bytes."
+abbrev pub longestMade : ℕ
+longestMade = 61448
+
 -- "Sheet: up to 32 entries, up to 16,384 bytes of encodings."
 abbrev pub maxEntries : ℕ
 maxEntries = 32

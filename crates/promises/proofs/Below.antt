@@ -6,14 +6,13 @@
 --     numbered, placed, sized, more    the fields of an answer that is known
 --     read-accepted, sheet-sound, child-part, child-packed, name-text     by the four numbers, what the call below answered
 --     fill-wrote .. table-wrote                                           the same of the calls that write
---     made-exact                       when n bytes are written, in four numbers
+--     fill-some .. table-some          a refusal of a call that writes has a number
 --     makes                            what is made, in four numbers
---     read-said .. name-said           what is said of bytes, in four numbers
+--     read-said .. sheet-said          what is said of bytes, in four numbers
 --     fill-makes .. table-makes        what is answered in every room that there is for it, every run makes
 -- Assumes nothing.
 use Prim.Native.Nat.{ℕ, _<_}
 use mathlib.Core.Path.{_≡_, refl, sym, _∙_, ap}
-use mathlib.Core.Logic.{_↔_}
 use mathlib.Core.List.{List}
 use native.Mathlib.Omega.{arith}
 use contract.Lifetimes.{Lfts}
@@ -43,7 +42,7 @@ use Rattle.answers.specs.declared.Answer.{Answer}
 use Rattle.answers.specs.Answers.{answered, refused, readPut, childPut, namePut, sheetPut, madePut}
 use Rattle.board.proofs.Plain.{Parameters}
 use Rattle.board.proofs.Small.{exported, exported-child, exported-name, exported-sheet}
-use Rattle.promises.specs.Order.{Answered, wrote, Makes}
+use Rattle.promises.specs.Told.{Answered, wrote, Makes}
 use Rattle.promises.proofs.Calls.{Lent, One, Two, Three, OnBytes, OnPart, Into, IntoOfTwo, IntoOfRecords, Read, ChildOf, NameOf, Check, Fill, Join, Write, WriteRecords, Tabled, BoardRead, BoardChild, BoardName, BoardSheet, BoardFill, BoardJoin, BoardWrite, BoardRecords, BoardTable}
 use Rattle.promises.proofs.Says.{MakesIn, read-says, child-says, name-says, check-says, fill-says, join-says, write-says, records-says, table-says}
 use Rattle.promises.proofs.Front.{front-holds, all-kept}
@@ -180,13 +179,6 @@ module _ {r : Answer} (z : Answered r) where
       go (Written n) run e = (rw (sized e) run, e ∙ rw (sized e))
       go (Refused n p) run e = none-refused e (k n p run) z
 
--- When n bytes are written, in four numbers.
-pub made-exact : {Run : Made → Type 0} {r : Answer} → Below madePut Run r → ((n p : ℕ) → Run (Refused n p) → 0 < n) → {E : ℕ → Type 0} → ((m : Made) → Run m → (n : ℕ) → (m ≡ Written n) ↔ E n) → (n : ℕ) → (r ≡ wrote n) ↔ E n
-made-exact {r = r} b k e n = (
-  λ h. let w = made-wrote (numbered h) b k in rw (sized h) at (e (Written (r .length)) (w .0) (r .length) .0 refl),
-  λ h. b .is ∙ ap madePut (e (b .m) (b .run) n .1 h),
-)
-
 -- What the call below makes, the exported call makes.
 pub makes : {Run : Made → Type 0} {r : Answer} {w before after : List ℕ} (b : Below madePut Run r) → MakesIn w before (b .m) after → Makes w before r after
 makes {w = w} {before = before} b s = record {
@@ -221,6 +213,9 @@ module _ {before after : List ℕ} where
 
     pub write-wrote : {table : List ℕ} → BoardWrite table before r after → Write table before (Written (r .length)) after × (r ≡ wrote (r .length))
     write-wrote c = made-wrote z (write-below c) write-some
+
+    pub records-wrote : {nodes : List Node} {rest : List ℕ} → BoardRecords nodes rest before r after → WriteRecords nodes rest before (Written (r .length)) after × (r ≡ wrote (r .length))
+    records-wrote c = made-wrote z (records-below c) records-some
 
     pub table-wrote : {bytes : List ℕ} → BoardTable bytes before r after → Tabled bytes before (Written (r .length)) after × (r ≡ wrote (r .length))
     table-wrote c = made-wrote z (table-below c) table-some

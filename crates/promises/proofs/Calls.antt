@@ -2,6 +2,7 @@
 -- over the runs of the exported calls, which the boards make (`BoardRead` .. `BoardTable`); the runs of the calls below them (`Read` .. `Tabled`) are
 -- what the laws behind the promises are over. What is lent are bytes; of what was lent only the buffer that a call writes to can have changed.
 --     OnBytes, OnPart, Into, IntoOfTwo, IntoOfRecords     a run, by what a call is lent, whatever its contract
+--     Lent, One, Two, Three                               what a call is lent: bytes, and its parameters one after the other
 -- Assumes nothing.
 use Prim.Native.Nat.{ℕ}
 use mathlib.Core.Path.{_≡_}

@@ -1,6 +1,6 @@
 -- The bench card, M1 to M14, in one statement.
 --     card-holds     every case of the card holds
---     card-runs      every run of the exported calls on the card's bytes says what the card says
+--     card-runs      every run of the exported calls on the card's bytes says what the card says (Ran)
 -- Assumes nothing.
 use Prim.Native.Nat.{ℕ}
 use mathlib.Core.Path.{_≡_, refl, sym, _∙_, ap}
@@ -21,7 +21,7 @@ use Rattle.meaning.proofs.Laws.{encode-reading}
 use Rattle.reader.specs.Said.{said}
 use Rattle.answers.specs.declared.Answer.{Answer}
 use Rattle.answers.specs.Answers.{answered, refused}
-use Rattle.promises.specs.Order.{Makes}
+use Rattle.promises.specs.Told.{Makes}
 use Rattle.promises.specs.Card.{Case, reads, refuses, finds, fills, joins, Holds, All, card}
 use Rattle.promises.proofs.Calls.{BoardRead, BoardChild, BoardFill, BoardJoin}
 use Rattle.promises.proofs.Below.{read-said, child-said, fill-makes, join-makes}

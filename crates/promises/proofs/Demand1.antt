@@ -3,8 +3,8 @@
 -- (That no call asks anything stands where the calls are: board/proofs/Asks.antt.)
 --     board-read-runs .. board-table-runs           whatever bytes are lent, there is a run, and its four numbers fit 32 bits each
 --     board-read-once .. board-table-once           one outcome: what was lent the same bytes says the same, and leaves the same bytes
---     board-read-tells .. board-table-tells         it refuses with number n at the place p exactly when a clause of specs/Order.antt gives these; of a
---                                                   call that writes, what it leaves in the lent buffer besides
+--     board-read-tells .. board-table-tells         it refuses with number n at the place p exactly when a clause of specs/Order.antt gives these, and
+--                                                   the other two numbers are then 0; of a call that writes, what it leaves in the lent buffer besides
 --     board-joined-rises                            the entries of a joined sheet, which the clauses of a joining go by, stand by rising number
 --     board-read-numbers .. board-table-numbers     the number of a refusal is one that the document lists for the call
 -- Assumes nothing.
@@ -44,7 +44,8 @@ use Rattle.editor.specs.Records.{meant}
 use Rattle.answers.specs.declared.Answer.{Answer}
 use Rattle.answers.specs.Answers.{Fits, readPut, childPut, namePut, sheetPut, madePut}
 use Rattle.board.proofs.Small.{Given, exported, exported-child, exported-name, exported-sheet, made-fits, records-fit}
-use Rattle.promises.specs.Order.{readNumbers, PartRefuses, FillRefuses, JoinRefuses, WriteRefuses, RecordsRefuses, TableRefuses, CheckRefused, FrontOnly, Tells, Keeps}
+use Rattle.promises.specs.Order.{readNumbers, PartRefuses, FillRefuses, JoinRefuses, WriteRefuses, RecordsRefuses, TableRefuses, CheckRefused}
+use Rattle.promises.specs.Told.{FrontOnly, Tells, Keeps}
 use Rattle.promises.proofs.Calls.{Lent, Two, Three, Into, IntoOfTwo, BoardRead, BoardChild, BoardName, BoardSheet, BoardFill, BoardJoin, BoardWrite, BoardRecords, BoardTable}
 use Rattle.promises.proofs.Once.{read-once, child-once, name-once, check-once, fill-once, join-once, write-once, records-once, table-once}
 use Rattle.promises.proofs.Refusing.{positive, read-refuses, read-numbers, child-refuses, name-refuses, part-numbers, check-refuses, check-numbers, fill-refuses, fill-numbers, fill-kept, fill-front, join-refuses, join-numbers, join-kept, join-front, write-refuses, write-numbers, write-kept, write-front, table-refuses, table-numbers, table-kept, table-front}
@@ -143,29 +144,29 @@ module _ {r r′ : Answer} where
 
 -- The four numbers tell a refusal of each enum, where no refusal has the number 0, and of every other case they have it.
 judged-told : (m : Judgement) → ((n p : ℕ) → m ≡ judged.Refused n p → 0 < n) → Tells (readPut m) (λ n p. m ≡ judged.Refused n p)
-judged-told (judged.Accepted l d) k n p = (λ h. absurd (omega arith), λ h. (k n p h, cc, cc))
-judged-told (judged.Refused m q) k n p = (λ h. ap₂ judged.Refused (h .1) (h .2), λ h. (k n p h, cc, cc))
+judged-told (judged.Accepted l d) k = record { exactly = λ n p. (λ h. absurd (omega arith), λ h. (k n p h, cc, cc)); bare = λ h. absurd (omega arith) }
+judged-told (judged.Refused m q) k = record { exactly = λ n p. (λ h. ap₂ judged.Refused (h .1) (h .2), λ h. (k n p h, cc, cc)); bare = λ h. refl }
 
 child-told : (m : FoundChild) → ((n p : ℕ) → m ≡ child.Refused n p → 0 < n) → Tells (childPut m) (λ n p. m ≡ child.Refused n p)
-child-told (child.Part q l) k n p = (λ h. absurd (omega arith), λ h. (k n p h, cc, cc))
-child-told (child.Primitive q) k n p = (λ h. absurd (omega arith), λ h. (k n p h, cc, cc))
-child-told (child.Refused m q) k n p = (λ h. ap₂ child.Refused (h .1) (h .2), λ h. (k n p h, cc, cc))
+child-told (child.Part q l) k = record { exactly = λ n p. (λ h. absurd (omega arith), λ h. (k n p h, cc, cc)); bare = λ h. absurd (omega arith) }
+child-told (child.Primitive q) k = record { exactly = λ n p. (λ h. absurd (omega arith), λ h. (k n p h, cc, cc)); bare = λ h. absurd (omega arith) }
+child-told (child.Refused m q) k = record { exactly = λ n p. (λ h. ap₂ child.Refused (h .1) (h .2), λ h. (k n p h, cc, cc)); bare = λ h. refl }
 
 name-told : (m : FoundName) → ((n p : ℕ) → m ≡ name.Refused n p → 0 < n) → Tells (namePut m) (λ n p. m ≡ name.Refused n p)
-name-told (name.Text q l) k n p = (λ h. absurd (omega arith), λ h. (k n p h, cc, cc))
-name-told (name.Refused m q) k n p = (λ h. ap₂ name.Refused (h .1) (h .2), λ h. (k n p h, cc, cc))
+name-told (name.Text q l) k = record { exactly = λ n p. (λ h. absurd (omega arith), λ h. (k n p h, cc, cc)); bare = λ h. absurd (omega arith) }
+name-told (name.Refused m q) k = record { exactly = λ n p. (λ h. ap₂ name.Refused (h .1) (h .2), λ h. (k n p h, cc, cc)); bare = λ h. refl }
 
 sheet-told : (m : Checked) → Tells (sheetPut m) (CheckRefused m)
-sheet-told (Sound e l) n p = (λ h. absurd (omega arith), λ h. absurd h)
-sheet-told (Broken q) n p = (λ h. (sym (h .1), sym (h .2)), λ h. (omega arith, sym (h .0), sym (h .1)))
+sheet-told (Sound e l) = record { exactly = λ n p. (λ h. absurd (omega arith), λ h. absurd h); bare = λ h. absurd (omega arith) }
+sheet-told (Broken q) = record { exactly = λ n p. (λ h. (sym (h .1), sym (h .2)), λ h. (omega arith, sym (h .0), sym (h .1))); bare = λ h. refl }
 
 made-told : (m : Made) → ((n p : ℕ) → m ≡ Refused n p → 0 < n) → Tells (madePut m) (λ n p. m ≡ Refused n p)
-made-told (Written l) k n p = (λ h. absurd (omega arith), λ h. (k n p h, cc, cc))
-made-told (Refused m q) k n p = (λ h. ap₂ Refused (h .1) (h .2), λ h. (k n p h, cc, cc))
+made-told (Written l) k = record { exactly = λ n p. (λ h. absurd (omega arith), λ h. (k n p h, cc, cc)); bare = λ h. absurd (omega arith) }
+made-told (Refused m q) k = record { exactly = λ n p. (λ h. ap₂ Refused (h .1) (h .2), λ h. (k n p h, cc, cc)); bare = λ h. refl }
 
 -- By the same clauses, told of one answer and of four numbers that are it.
 tells : {r a : Answer} {Q R : ℕ → ℕ → Type 0} → r ≡ a → Tells a Q → ((n p : ℕ) → Q n p ↔ R n p) → Tells r R
-tells e t o n p = rw e (Iff·trans (t n p) (o n p))
+tells {r} {a} {Q} {R} e t o = subst (λ (r : Answer). Tells r R) (sym e) (record { exactly = λ n p. Iff·trans (t .exactly n p) (o n p); bare = t .bare })
 
 module _ {r : Answer} where
   -- `shiulbart_read`: 1 to 8.
@@ -226,7 +227,7 @@ module _ {r : Answer} where
 
 -- The clause that gives a refusal.
 clause : (r : Answer) {R : ℕ → ℕ → Type 0} → Tells r R → 0 < r .number → R (r .number) (r .place)
-clause r t h = t (r .number) (r .place) .0 (h, refl, refl)
+clause r t h = t .exactly (r .number) (r .place) .0 (h, refl, refl)
 
 module _ {r : Answer} where
   -- The number of a refusal: 1 to 8; of a part 18 besides; of a sheet 13.

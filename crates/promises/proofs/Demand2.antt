@@ -1,19 +1,20 @@
 -- Demand 2, over the exported calls: "The reader accepts exactly the encodings of shapes within the limits. Two such shapes have equal bytes exactly
 -- when they are the same shape. Shape to bytes and bytes to shape undo each other. A fill gives the encoding of the template with all named blanks
--- replaced at one moment." The lent buffers hold b₁, b₂, .. before, and a₁, a₂, .. after.
+-- replaced at one moment." (That such shapes have equal bytes exactly when they are the same is of no call: `same-exactly`, Exact.antt.) The lent
+-- buffers hold b₁, b₂, .. before, and a₁, a₂, .. after.
 --     board-read-exact       `shiulbart_read` accepts exactly the encodings of the shapes within the limits
---     board-same-exactly     two accepted inputs are the same bytes exactly if they are the same shape
 --     board-sheet-exact      `shiulbart_sheet` accepts exactly the bytes of the sheets within the limits
+--     board-fill-exact, board-join-exact, board-write-exact, board-records-exact, board-table-exact
+--                            what each makes: exactly the bytes that it is to make, with the least room
+--     board-fill-replaces    what `shiulbart_fill` made is the template's shape with the named blanks replaced, all at one moment
+--     board-join-joins       what `shiulbart_join` made is the first sheet filled by the second, with what only the second names
 --     board-table-back       a table that `shiulbart_table` made is written back to the bytes that it was made of
 --     board-table-again      made once more of those bytes, the table is the same, byte for byte
 --     board-write-back       what `shiulbart_write` made is made into a table that means the same shape
 --     board-table-longest    no table that is made has more than 61,448 bytes
---     board-fill-replaces    what `shiulbart_fill` made is the template's shape with the named blanks replaced, all at one moment
---     board-join-joins       what `shiulbart_join` made is the first sheet filled by the second, with what only the second names
---     board-fill-exact, board-join-exact, board-write-exact, board-records-exact, board-table-exact
---                            each writes exactly where all is within the limits and the lent buffer has the room
 --     board-records-same     `shiulbart_write_records` does what `shiulbart_write` does of the same table in bytes
---     board-child-is, board-child-apart, board-child-read     children with bytes are accepted encodings, inside the payload, and share no byte
+--     board-child-exact, board-packed-exact, board-name-exact     what is said of child k and of name k is what they are in the shape
+--     board-child-is, board-child-apart, board-child-read         children with bytes are accepted encodings, inside the payload, and share no byte
 --     board-child-packed     a packed parent's child is the primitive of its number
 --     board-name-is          a name's bytes are its text
 -- Assumes nothing.
@@ -23,27 +24,27 @@ use mathlib.Core.Logic.{_↔_}
 use mathlib.Core.List.{List}
 use native.Mathlib.Omega.{arith}
 use lib.ListN.{length, take, drop, length-take, length-drop}
-use Rattle.meaning.specs.Limits.{maxNodes}
+use Rattle.meaning.specs.Limits.{maxNodes, longestMade}
 use Rattle.meaning.specs.Shape.{Primitive, prim, Shape, depth}
 use Rattle.meaning.specs.FirstByte.{code}
 use Rattle.meaning.specs.Encode.{encode}
-use Rattle.meaning.specs.Parts.{children, childShape, names, nameText}
+use Rattle.meaning.specs.Parts.{part, packedPrim, children, childShape, childOf, names, nameText, namePlace}
 use Rattle.meaning.specs.Sheet.{Sheet, fill, join, encodings, sheetBytes}
 use Rattle.meaning.specs.Table.{Table, tableBytes, tableShape}
 use Rattle.meaning.specs.TableReading.{TableWithin}
-use Rattle.meaning.proofs.TableSize.{longestMade}
 use Rattle.meaning.proofs.Answers.{Filled, Joined}
 use Rattle.meaning.proofs.TableAnswers as Meant
 use Rattle.editor.specs.declared.Node.{Node}
 use Rattle.editor.specs.Records.{sameTable}
 use Rattle.answers.specs.declared.Answer.{Answer}
-use Rattle.answers.specs.Answers.{answered, readPut, sheetPut}
-use Rattle.promises.specs.Order.{Answered, HasBytes, HasNone, wrote, Makes, InPayload}
+use Rattle.answers.specs.Answers.{answered, readPut, childPut, namePut, sheetPut}
+use Rattle.promises.specs.Told.{IsShape, IsSheet, IsTable, Found, Answered, wrote, Makes, MakesExactly, HasBytes, HasNone, InPayload}
 use Rattle.promises.proofs.Calls.{BoardRead, BoardChild, BoardName, BoardSheet, BoardFill, BoardJoin, BoardWrite, BoardRecords, BoardTable}
-use Rattle.promises.proofs.Exact.{IsShape, IsSheet, IsTable, read-exact, check-exact, same-exactly, table-back, table-again, write-back, table-longest, fill-replaces, join-joins, fill-exact, join-exact, write-exact, table-exact}
-use Rattle.promises.proofs.Records.{RecordsWrote, records-same, records-exact}
-use Rattle.promises.proofs.Found.{packed-found, child-stands, child-order, name-stands}
-use Rattle.promises.proofs.Below.{alike, numbered, sized, more, read-below, sheet-below, fill-below, join-below, write-below, records-below, table-below, read-accepted, sheet-sound, child-part, child-packed, name-text, made-exact, makes, fill-some, join-some, write-some, records-some, table-some, fill-wrote, join-wrote, write-wrote, table-wrote}
+use Rattle.promises.proofs.Front.{fill-made, join-made, write-made, table-made, filled-in, joined-in, wrote-in, tabled-in}
+use Rattle.promises.proofs.Exact.{read-exact, check-exact, table-back, table-again, write-back, table-longest, fill-replaces, join-joins}
+use Rattle.promises.proofs.Records.{RecordsWrote, records-same, records-made, records-in}
+use Rattle.promises.proofs.Found.{child-exact, packed-exact, name-exact, child-stands, children-apart, packed-is, name-stands}
+use Rattle.promises.proofs.Below.{alike, numbered, placed, sized, more, read-below, child-below, name-below, sheet-below, write-below, records-below, table-below, read-accepted, sheet-sound, child-part, child-packed, name-text, makes, fill-makes, join-makes, write-makes, records-makes, table-makes, fill-wrote, join-wrote, write-wrote, records-wrote, table-wrote}
 
 module _ {r : Answer} where
   -- `shiulbart_read` accepts exactly the encodings of the shapes within the limits, and says their length and depth.
@@ -59,10 +60,6 @@ module _ {r : Answer} where
     λ h. let q = check-exact (sheet-sound (numbered h) c .0) (r .extra) (r .length) .0 refl in (q .0, q .1, sym (sized h) ∙ q .3, sym (more h) ∙ q .2),
     λ h. let b = sheet-below c in b .is ∙ ap sheetPut (check-exact (b .run) e l .1 (h .0, h .1, h .3, h .2)),
   )
-
--- Two accepted inputs are the same bytes exactly if they are the same shape.
-pub board-same-exactly : {bytes bytes′ : List ℕ} {r r′ : Answer} → BoardRead bytes r → Answered r → BoardRead bytes′ r′ → Answered r′ → (s s′ : Shape) × IsShape bytes s × IsShape bytes′ s′ × ((bytes ≡ bytes′) ↔ (s ≡ s′))
-board-same-exactly c z c′ z′ = same-exactly (read-accepted z c .0) (read-accepted z′ c′ .0)
 
 module _ {b₁ a₁ b₂ a₂ : List ℕ} {r₁ r₂ : Answer} where
   -- A table that `shiulbart_table` made is written back to the bytes that it was made of.
@@ -80,6 +77,26 @@ module _ {b₁ a₁ b₂ a₂ : List ℕ} {r₁ r₂ : Answer} where
   board-write-back w z d = let b = table-below d in let e = write-back (write-wrote z w .0) (b .run) in (e .0, e .1, e .2, e .3, e .4, makes b (e .5))
 
 module _ {before after : List ℕ} {r : Answer} where
+  -- `shiulbart_fill` makes exactly the encoding of the filled template, where template, sheet and filled shape are within the limits.
+  pub board-fill-exact : {template sheet : List ℕ} → BoardFill template sheet before r after → MakesExactly (Filled template sheet) before r after
+  board-fill-exact c = record { makes = λ w f. fill-makes c (filled-in f); made = λ z. fill-made (fill-wrote z c .0) }
+
+  -- `shiulbart_join` makes exactly the bytes of the joined sheet,
+  pub board-join-exact : {first second : List ℕ} → BoardJoin first second before r after → MakesExactly (Joined first second) before r after
+  board-join-exact c = record { makes = λ w f. join-makes c (joined-in f); made = λ z. join-made (join-wrote z c .0) }
+
+  -- `shiulbart_write` the encoding of the shape that a table means,
+  pub board-write-exact : {table : List ℕ} → BoardWrite table before r after → MakesExactly (Meant.Wrote table) before r after
+  board-write-exact c = record { makes = λ w f. write-makes c (wrote-in f); made = λ z. write-made (write-wrote z c .0) }
+
+  -- `shiulbart_write_records` the same of a table in records,
+  pub board-records-exact : {nodes : List Node} {rest : List ℕ} → BoardRecords nodes rest before r after → MakesExactly (RecordsWrote nodes rest) before r after
+  board-records-exact c = record { makes = λ w f. records-makes c (records-in f); made = λ z. records-made (records-wrote z c .0) }
+
+  -- and `shiulbart_table` the table of an encoding.
+  pub board-table-exact : {bytes : List ℕ} → BoardTable bytes before r after → MakesExactly (Meant.Tabled bytes) before r after
+  board-table-exact c = record { makes = λ w f. table-makes c (tabled-in f); made = λ z. table-made (table-wrote z c .0) }
+
   -- No table that is made has more than 61,448 bytes.
   pub board-table-longest : {bytes : List ℕ} → BoardTable bytes before r after → Answered r → r .length ≤ longestMade
   board-table-longest c z = table-longest (table-wrote z c .0)
@@ -95,27 +112,6 @@ module _ {before after : List ℕ} {r : Answer} where
       → (σ τ : Sheet) × IsSheet first σ × IsSheet second τ × IsSheet (take (r .length) after) (join σ τ) × (r ≡ wrote (length (sheetBytes (join σ τ))))
   board-join-joins c z = let w = join-wrote z c in let f = join-joins (w .0) in (f .0, f .1, f .2, f .3, f .4, w .1 ∙ ap wrote (f .5))
 
-  -- `shiulbart_fill` writes n bytes exactly where template, sheet and filled shape are within the limits, the filled shape has n bytes, and the buffer
-  -- has the room.
-  pub board-fill-exact : {template sheet : List ℕ} → BoardFill template sheet before r after → (n : ℕ) → (r ≡ wrote n) ↔ ((w : List ℕ) × Filled template sheet w × (length w ≡ n) × (n ≤ length before))
-  board-fill-exact c = made-exact (fill-below c) fill-some (λ m. fill-exact)
-
-  -- So does `shiulbart_join`, of two sheets and the joined sheet,
-  pub board-join-exact : {first second : List ℕ} → BoardJoin first second before r after → (n : ℕ) → (r ≡ wrote n) ↔ ((w : List ℕ) × Joined first second w × (length w ≡ n) × (n ≤ length before))
-  board-join-exact c = made-exact (join-below c) join-some (λ m. join-exact)
-
-  -- `shiulbart_write`, of a table and the shape that it means,
-  pub board-write-exact : {table : List ℕ} → BoardWrite table before r after → (n : ℕ) → (r ≡ wrote n) ↔ ((w : List ℕ) × Meant.Wrote table w × (length w ≡ n) × (n ≤ length before))
-  board-write-exact c = made-exact (write-below c) write-some (λ m. write-exact)
-
-  -- `shiulbart_write_records`, of the same in records,
-  pub board-records-exact : {nodes : List Node} {rest : List ℕ} → BoardRecords nodes rest before r after → (n : ℕ) → (r ≡ wrote n) ↔ ((w : List ℕ) × RecordsWrote nodes rest w × (length w ≡ n) × (n ≤ length before))
-  board-records-exact c = made-exact (records-below c) records-some (λ m. records-exact)
-
-  -- and `shiulbart_table`, of an encoding and its table.
-  pub board-table-exact : {bytes : List ℕ} → BoardTable bytes before r after → (n : ℕ) → (r ≡ wrote n) ↔ ((w : List ℕ) × Meant.Tabled bytes w × (length w ≡ n) × (n ≤ length before))
-  board-table-exact c = made-exact (table-below c) table-some (λ m. table-exact)
-
   -- `shiulbart_write_records` says and leaves what `shiulbart_write` does of the same table in bytes, where there can be one.
   pub board-records-same : {nodes : List Node} {rest after′ : List ℕ} {r′ : Answer} → BoardRecords nodes rest before r after → BoardWrite (sameTable nodes rest) before r′ after′ → 1 ≤ length nodes → length nodes ≤ maxNodes
       → (r ≡ r′) × (after ≡ after′)
@@ -126,26 +122,46 @@ part-length : (size place : ℕ) (bytes : List ℕ) → place + size ≤ length 
 part-length size place bytes h = simp (length-take, length-drop) (omega arith)
 
 module _ {bytes : List ℕ} {k : ℕ} {r : Answer} where
+  -- What is said of a child is exactly what child k of the shape is: its place and length,
+  pub board-child-exact : BoardChild bytes k r → (place size : ℕ) → (r ≡ answered place size 0) ↔ Found bytes (λ s. (k < length (children s)) × (childOf s k ≡ part place size))
+  board-child-exact c place size = (
+    λ h. rw (placed h, sized h) at (child-exact (child-part (numbered h) c (more h) .0) (r .place) (r .length) .0 refl),
+    λ f. let b = child-below c in b .is ∙ ap childPut (child-exact (b .run) place size .1 f),
+  )
+
+  -- or, where the parent is packed, a primitive's number.
+  pub board-packed-exact : BoardChild bytes k r → (number : ℕ) → (r ≡ answered number 0 1) ↔ Found bytes (λ s. (k < length (children s)) × (childOf s k ≡ packedPrim number))
+  board-packed-exact c number = (
+    λ h. rw (placed h) at (packed-exact (child-packed (numbered h) c (more h) .0) (r .place) .0 refl),
+    λ f. let b = child-below c in b .is ∙ ap childPut (packed-exact (b .run) number .1 f),
+  )
+
+  -- What is said of a name is exactly where name k of the shape is, and how long.
+  pub board-name-exact : BoardName bytes k r → (place size : ℕ) → (r ≡ answered place size 0) ↔ Found bytes (λ s. (k < length (names s)) × (namePlace s k ≡ place) × (length (nameText s k) ≡ size))
+  board-name-exact c place size = (
+    λ h. rw (placed h, sized h) at (name-exact (name-text (numbered h) c .0) (r .place) (r .length) .0 refl),
+    λ f. let b = name-below c in b .is ∙ ap namePut (name-exact (b .run) place size .1 f),
+  )
+
   -- A child with bytes stands inside the parent's payload, and is the encoding of the parent's child k, which is within the limits.
-  pub board-child-is : BoardChild bytes k r → HasBytes r
-      → (s : Shape) × IsShape bytes s × (k < length (children s)) × IsShape (take (r .length) (drop (r .place) bytes)) (childShape s k) × InPayload bytes (r .place) (r .length)
+  pub board-child-is : BoardChild bytes k r → HasBytes r → Found bytes (λ s. (k < length (children s)) × IsShape (take (r .length) (drop (r .place) bytes)) (childShape s k) × InPayload bytes (r .place) (r .length))
   board-child-is c h = child-stands (child-part (h .0) c (h .1) .0)
 
   -- So `shiulbart_read` accepts it, whole.
   pub board-child-read : {r′ : Answer} → BoardChild bytes k r → HasBytes r → BoardRead (take (r .length) (drop (r .place) bytes)) r′ → Answered r′ × (r′ .length ≡ r .length)
   board-child-read c h d =
-      let f = board-child-is c h in
-      let e = board-read-exact d _ _ .1 (_, f .3, refl, refl) in
-      (numbered e, sized e ∙ part-length (r .length) (r .place) bytes (f .4 .1))
+      let f = board-child-is c h .2 in
+      let e = board-read-exact d _ _ .1 (_, f .1, refl, refl) in
+      (numbered e, sized e ∙ part-length (r .length) (r .place) bytes (f .2 .1))
 
   -- Of two children with bytes the first ends where the second starts, or before: they share no byte.
   pub board-child-apart : {j : ℕ} {r′ : Answer} → BoardChild bytes j r′ → HasBytes r′ → BoardChild bytes k r → HasBytes r → j < k → r′ .place + r′ .length ≤ r .place
-  board-child-apart c h d g = child-order (child-part (h .0) c (h .1) .0) (child-part (g .0) d (g .1) .0)
+  board-child-apart c h d g = children-apart (child-part (h .0) c (h .1) .0) (child-part (g .0) d (g .1) .0)
 
   -- A child without bytes, of a packed parent, is the primitive whose number is told.
-  pub board-child-packed : BoardChild bytes k r → HasNone r → (s : Shape) × IsShape bytes s × (k < length (children s)) × (p : Primitive) × (childShape s k ≡ prim p) × (r ≡ answered (code p) 0 1)
-  board-child-packed c h = let p = child-packed (h .0) c (h .1) in let f = packed-found (p .0) in let g = f .2 in (f .0, f .1, g .there, g .primitive, g .shape-is, p .1 ∙ ap (λ (n : ℕ). answered n 0 1) (g .numbered))
+  pub board-child-packed : BoardChild bytes k r → HasNone r → Found bytes (λ s. (k < length (children s)) × ((p : Primitive) × (childShape s k ≡ prim p) × (r .place ≡ code p)))
+  board-child-packed c h = packed-is (child-packed (h .0) c (h .1) .0)
 
   -- A name's bytes are its text, inside the payload.
-  pub board-name-is : BoardName bytes k r → Answered r → (s : Shape) × IsShape bytes s × (k < length (names s)) × (take (r .length) (drop (r .place) bytes) ≡ nameText s k) × InPayload bytes (r .place) (r .length)
+  pub board-name-is : BoardName bytes k r → Answered r → Found bytes (λ s. (k < length (names s)) × (take (r .length) (drop (r .place) bytes) ≡ nameText s k) × InPayload bytes (r .place) (r .length))
   board-name-is c z = name-stands (name-text z c .0)

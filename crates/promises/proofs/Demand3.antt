@@ -5,7 +5,7 @@
 --     board-two-stages           filled by the workshop and then on site is filled once by the joined sheet; without the room, 12 has the length of
 --                                those very bytes
 --     board-three-sheets         three sheets are joined to the same bytes, whichever two are joined first
---     board-other-pair-first     where one pairing is answered, so is the other, given room enough
+--     board-other-pair-first, board-other-pair-last     where one pairing is answered, so is the other, given room enough
 --     board-empty-fills          the empty sheet changes no shape
 --     board-empty-first, board-empty-second     the empty sheet changes no sheet
 -- Assumes nothing.
@@ -14,9 +14,9 @@ use mathlib.Core.Path.{_≡_, sym, _∙_, ap}
 use mathlib.Core.List.{List}
 use lib.ListN.{take}
 use Rattle.answers.specs.declared.Answer.{Answer}
-use Rattle.promises.specs.Order.{Answered, wrote, Makes}
+use Rattle.promises.specs.Told.{emptySheet, Answered, wrote, Makes}
 use Rattle.promises.proofs.Calls.{BoardRead, BoardSheet, BoardFill, BoardJoin}
-use Rattle.promises.proofs.Stages.{two-stages, three-sheets, other-pair-first, emptySheet, empty-fills, empty-first, empty-second}
+use Rattle.promises.proofs.Stages.{two-stages, three-sheets, other-pair-first, other-pair-last, empty-fills, empty-first, empty-second}
 use Rattle.promises.proofs.Below.{fill-below, join-below, read-accepted, sheet-sound, fill-wrote, join-wrote, makes}
 
 module _ {b₁ a₁ b₂ a₂ b₃ a₃ b₄ a₄ : List ℕ} {r₁ r₂ r₃ r₄ : Answer} where
@@ -46,6 +46,13 @@ module _ {b₁ a₁ b₂ a₂ b₃ a₃ b₄ a₄ : List ℕ} {r₁ r₂ r₃ r�
         → BoardJoin second third b₃ r₃ a₃ → Answered r₃
         → BoardJoin first (take (r₃ .length) a₃) b₄ r₄ a₄ → Makes (take (r₂ .length) a₂) b₄ r₄ a₄
     board-other-pair-first c₁ z₁ c₂ z₂ c₃ z₃ c₄ = let b = join-below c₄ in makes b (other-pair-first (join-wrote z₁ c₁ .0) (join-wrote z₂ c₂ .0) (join-wrote z₃ c₃ .0) (b .run))
+
+    -- Where the last two are joined first, and the first two are joined, those joined with the third make the same bytes.
+    pub board-other-pair-last : BoardJoin second third b₁ r₁ a₁ → Answered r₁
+        → BoardJoin first (take (r₁ .length) a₁) b₂ r₂ a₂ → Answered r₂
+        → BoardJoin first second b₃ r₃ a₃ → Answered r₃
+        → BoardJoin (take (r₃ .length) a₃) third b₄ r₄ a₄ → Makes (take (r₂ .length) a₂) b₄ r₄ a₄
+    board-other-pair-last c₁ z₁ c₂ z₂ c₃ z₃ c₄ = let b = join-below c₄ in makes b (other-pair-last (join-wrote z₁ c₁ .0) (join-wrote z₂ c₂ .0) (join-wrote z₃ c₃ .0) (b .run))
 
 module _ {before after : List ℕ} {r r′ : Answer} where
   -- The empty sheet changes no shape: filled with it, an accepted encoding is made again.

@@ -1,15 +1,13 @@
--- Demand 2 over the calls: what is accepted, that tables and bytes undo each other, and what `fill` and `join` make.
+-- The laws behind demand 2, over the calls: what is accepted, that tables and bytes undo each other, and what `fill` and `join` make.
 --     read-exact         `read` accepts exactly the encodings of the shapes within the limits
 --     check-exact        `check` accepts exactly the bytes of the sheets within the limits
---     same-exactly       two accepted inputs are the same bytes exactly if they are the same shape
+--     same-exactly       two shapes within the limits have the same bytes exactly if they are the same
 --     table-back         `write` turns a table that `to_table` made back into the bytes that it was made of
 --     table-again        made once more of those bytes, the table is the same, byte for byte
 --     write-back         `to_table` turns what `write` made into a table that means the same shape
 --     table-longest      no table that `to_table` made has more than 61,448 bytes
 --     fill-replaces      what `fill` made is the template's shape with the named blanks replaced, all at one moment
 --     join-joins         what `join` made is the first sheet filled by the second, with what only the second names
---     fill-exact, join-exact, write-exact, table-exact     each writes exactly where all is within the limits and the lent buffer has the room
---     writes-exactly     so does any call whose answers are what P holds of, and fit
 -- Assumes nothing.
 use Prim.Native.Nat.{ℕ, _≤_}
 use mathlib.Core.Path.{_≡_, refl, sym, _∙_}
@@ -17,23 +15,20 @@ use mathlib.Core.Logic.{_↔_}
 use mathlib.Core.List.{List}
 use native.Mathlib.Omega.{arith}
 use lib.ListN.{length, take}
+use Rattle.meaning.specs.Limits.{longestMade}
 use Rattle.meaning.specs.Refusals.{sheetBroken}
 use Rattle.meaning.specs.Shape.{Shape, depth}
 use Rattle.meaning.specs.Encode.{encode}
-use Rattle.meaning.specs.Within.{Within}
 use Rattle.meaning.specs.Reading.{Reading, got, bad, reading}
-use Rattle.meaning.specs.Sheet.{Sheet, fill, join, encodings, sheetBytes, SheetWithin}
+use Rattle.meaning.specs.Sheet.{Sheet, fill, join, encodings, sheetBytes}
 use Rattle.meaning.specs.SheetReading.{readSheet}
 use Rattle.meaning.specs.Table.{Table, tableBytes, tableShape, tableOf}
 use Rattle.meaning.specs.TableReading.{TableWithin}
-use Rattle.meaning.specs.Answers.{Answer, answered, inRoom}
 use Rattle.meaning.proofs.Laws.{reading-encode, encode-reading, same-bytes}
 use Rattle.meaning.proofs.SheetBytes.{read-sheet, sheet-read}
-use Rattle.meaning.proofs.TableOf.{table-shape}
-use Rattle.meaning.proofs.TableSize.{longestMade, made-length, made-within}
-use Rattle.meaning.proofs.Answers.{room-answered, room-enough, Filled, fill-answered, fill-fits, Joined, join-answered, join-fits}
-use Rattle.meaning.proofs.TableAnswers.{Wrote, write-answered, write-fits, table-answered, table-fits, same-meaning}
-use Rattle.meaning.proofs.TableAnswers as Meant
+use Rattle.meaning.proofs.TableSize.{made-length, made-within}
+use Rattle.meaning.proofs.Answers.{room-answered}
+use Rattle.meaning.proofs.TableAnswers.{table-write, write-table, same-meaning}
 use Rattle.buffers.specs.declared.Made.{Made}
 use Rattle.buffers.specs.declared.Made.the-variants.{Written}
 use Rattle.reader.specs.declared.Judgement.{Judgement}
@@ -42,24 +37,10 @@ use Rattle.reader.specs.Said.{said}
 use Rattle.sheets.specs.declared.Checked.{Checked}
 use Rattle.sheets.specs.declared.Checked.the-variants.{Sound}
 use Rattle.sheets.specs.Said.{checked}
+use Rattle.promises.specs.Told.{IsShape, IsSheet, IsTable}
 use Rattle.promises.proofs.Calls.{Read, Check, Fill, Join, Write, Tabled}
-use Rattle.promises.proofs.Says.{Says, MakesIn, read-says, check-says, fill-says, join-says, write-says, table-says}
-use Rattle.promises.proofs.Front.{front-is, front-holds, write-front-is, fill-made, join-made, write-made, table-made, filled-in, joined-in, wrote-in, tabled-in}
-
--- bytes are the encoding of the shape s, which is within the limits
-pub record IsShape (bytes : List ℕ) (s : Shape) : Type 0 where
-  pub encoded : bytes ≡ encode s
-  pub within : Within s
-
--- bytes are those of the sheet σ, which is within the limits
-pub record IsSheet (bytes : List ℕ) (σ : Sheet) : Type 0 where
-  pub encoded : bytes ≡ sheetBytes σ
-  pub within : SheetWithin σ
-
--- bytes are those of the table T, which is within the limits
-pub record IsTable (bytes : List ℕ) (T : Table) : Type 0 where
-  pub encoded : bytes ≡ tableBytes T
-  pub within : TableWithin T
+use Rattle.promises.proofs.Says.{MakesIn, read-says, check-says, fill-says, join-says, table-says}
+use Rattle.promises.proofs.Front.{front-is, write-front-is, fill-made, join-made, write-made, table-made, wrote-in, write-makes-in, table-makes-in}
 
 -- What is said of the encoding of a shape within the limits.
 shape-said : (bytes : List ℕ) (s : Shape) → IsShape bytes s → said (reading bytes) ≡ Accepted (length bytes) (depth s)
@@ -85,37 +66,30 @@ check-exact {sheet} {r} c e l = (λ h. go (readSheet sheetBroken sheet) refl (sy
     go (got σ v) p h = let f = sheet-read sheetBroken sheet σ v (c .small) p in (σ, record { encoded = f .0; within = f .1 }, cc, cc)
     go (bad n q) p h = let z : _≡_ {A = ℕ} 0 1 = cc in absurd (omega arith)
 
--- Two accepted inputs are the same bytes exactly if they are the same shape.
-pub same-exactly : {bytes bytes′ : List ℕ} {l d l′ d′ : ℕ} → Read bytes (Accepted l d) → Read bytes′ (Accepted l′ d′) → (s s′ : Shape) × IsShape bytes s × IsShape bytes′ s′ × ((bytes ≡ bytes′) ↔ (s ≡ s′))
-same-exactly {l = l} {d = d} {l′ = l′} {d′ = d′} c c′ =
-    let a = read-exact c l d .0 refl in
-    let b = read-exact c′ l′ d′ .0 refl in
-    let e = same-bytes (a .0) (b .0) (a .1 .within) (b .1 .within) in
-    (a .0, b .0, a .1, b .1, (λ h. e .0 (sym (a .1 .encoded) ∙ h ∙ b .1 .encoded), λ h. a .1 .encoded ∙ e .1 h ∙ sym (b .1 .encoded)))
-
--- What a table that `to_table` made means is what it was made of.
-back-again : {bytes w : List ℕ} → Meant.Tabled bytes w → Wrote w bytes
-back-again t = record { T = tableOf (t .s); T-is = t .is; T-within = made-within (t .s) (t .s-within); made-within = rw (table-shape (t .s)) (t .s-within); is = rw (table-shape (t .s)) (t .s-is) }
+-- Two inputs that are shapes within the limits are the same bytes exactly if they are the same shape.
+pub same-exactly : {bytes bytes′ : List ℕ} {s s′ : Shape} → IsShape bytes s → IsShape bytes′ s′ → (bytes ≡ bytes′) ↔ (s ≡ s′)
+same-exactly {s = s} {s′ = s′} a b =
+    let e = same-bytes s s′ (a .within) (b .within) in
+    (λ h. e .0 (sym (a .encoded) ∙ h ∙ b .encoded), λ h. a .encoded ∙ e .1 h ∙ sym (b .encoded))
 
 -- `write` turns a table that `to_table` made back into the bytes that it was made of.
 pub table-back : {bytes b₁ a₁ b₂ a₂ : List ℕ} {n : ℕ} {r : Made} → Tabled bytes b₁ (Written n) a₁ → Write (take n a₁) b₂ r a₂ → MakesIn bytes b₂ r a₂
-table-back c w = rw (← wrote-in (back-again (table-made c)) _) (write-says w)
+table-back c = write-makes-in (table-write (table-made c))
 
 -- Whatever the room, what `write` makes of it are those bytes.
 one-writing : {bytes b₁ a₁ b₂ a₂ : List ℕ} {n m : ℕ} → Tabled bytes b₁ (Written n) a₁ → Write (take n a₁) b₂ (Written m) a₂ → take m a₂ ≡ bytes
-one-writing {bytes} {b₂ = b₂} c w = sym (room-answered _ bytes _ (sym (wrote-in (back-again (table-made c)) (length b₂)) ∙ write-front-is w) .0)
+one-writing {bytes} {b₂ = b₂} c w = sym (room-answered _ bytes _ (sym (wrote-in (table-write (table-made c)) (length b₂)) ∙ write-front-is w) .0)
 
 -- A table that `to_table` made, written and made once more, is the same, byte for byte.
 pub table-again : {bytes b₁ a₁ b₂ a₂ b₃ a₃ : List ℕ} {n m : ℕ} {r : Made} → Tabled bytes b₁ (Written n) a₁ → Write (take n a₁) b₂ (Written m) a₂ → Tabled (take m a₂) b₃ r a₃ → MakesIn (take n a₁) b₃ r a₃
-table-again c w d = rw (← tabled-in (table-made c) _) (rw (one-writing c w) at (table-says d))
+table-again c w = table-makes-in (rw (one-writing c w) (table-made c))
 
 -- `to_table` turns what `write` made into a table that means the same shape.
 pub write-back : {table b₁ a₁ b₂ a₂ : List ℕ} {n : ℕ} {r : Made} → Write table b₁ (Written n) a₁ → Tabled (take n a₁) b₂ r a₂
     → (T T′ : Table) × IsTable table T × TableWithin T′ × (tableShape T′ ≡ tableShape T) × MakesIn (tableBytes T′) b₂ r a₂
 write-back w d =
     let x = write-made w in
-    let s = tableShape (x .T) in
-    (x .T, tableOf s, record { encoded = x .T-is; within = x .T-within }, made-within s (x .made-within), same-meaning (x .T), rw (← tabled-in (record { s = s; s-is = x .is; s-within = x .made-within; is = refl }) _) (table-says d))
+    (x .T, tableOf (tableShape (x .T)), record { encoded = x .T-is; within = x .T-within }, made-within _ (x .made-within), same-meaning (x .T), table-makes-in (write-table x) d)
 
 -- No table that `to_table` made has more than 61,448 bytes.
 pub table-longest : {bytes before after : List ℕ} {n : ℕ} → Tabled bytes before (Written n) after → n ≤ longestMade
@@ -134,29 +108,3 @@ pub join-joins : {first second before after : List ℕ} {n : ℕ} → Join first
 join-joins {before = before} {n = n} c =
     let f = join-made c in
     (f .σ, f .τ, record { encoded = f .σ-is; within = f .σ-within }, record { encoded = f .τ-is; within = f .τ-within }, record { encoded = f .is; within = f .made-within }, rw (← f .is) (sym (front-is _ before (join-says c) .1)))
-
--- Where the answers are bytes w that P holds of and that fit, and what P holds of is made, a run writes exactly where there are such bytes.
-pub writes-exactly : (P : List ℕ → Type 0) (a : Answer) (before : List ℕ) {r : Made} {after : List ℕ} → ((w : List ℕ) → a ≡ answered w → P w × (length w ≤ length before)) → ((w : List ℕ) → P w → a ≡ inRoom (length before) w)
-    → Says a before r after → (n : ℕ) → (r ≡ Written n) ↔ ((w : List ℕ) × P w × (length w ≡ n) × (n ≤ length before))
-writes-exactly P a before {after = after} to from s n = (
-  λ h. let f = front-is a before (sym h ∙ s .0, s .1) in let g = to (take n after) (f .0) in (take n after, g .0, f .1, rw (← f .1) (g .1)),
-  λ h. front-holds a before (h .0) s (from (h .0) (h .1) ∙ room-enough _ (h .0) (rw (h .2) (h .3))) (h .2) .0,
-)
-
--- `fill` writes n bytes exactly where template, sheet and filled shape are within the limits, the filled shape has n bytes, and the buffer has the room.
-pub fill-exact : {template sheet before after : List ℕ} {r : Made} → Fill template sheet before r after → (n : ℕ) → (r ≡ Written n) ↔ ((w : List ℕ) × Filled template sheet w × (length w ≡ n) × (n ≤ length before))
-fill-exact {template} {sheet} {before} c =
-    writes-exactly (Filled template sheet) _ before (λ w h. (fill-answered template sheet _ w (c .small .0) (c .small .1) h, fill-fits template sheet _ w h)) (λ w f. filled-in f (length before)) (fill-says c)
-
--- So does `join`, of two sheets and the joined sheet.
-pub join-exact : {first second before after : List ℕ} {r : Made} → Join first second before r after → (n : ℕ) → (r ≡ Written n) ↔ ((w : List ℕ) × Joined first second w × (length w ≡ n) × (n ≤ length before))
-join-exact {first} {second} {before} c =
-    writes-exactly (Joined first second) _ before (λ w h. (join-answered first second _ w (c .small .0) (c .small .1) h, join-fits first second _ w h)) (λ w f. joined-in f (length before)) (join-says c)
-
--- So does `write`, of a table and the shape that it means.
-pub write-exact : {table before after : List ℕ} {r : Made} → Write table before r after → (n : ℕ) → (r ≡ Written n) ↔ ((w : List ℕ) × Wrote table w × (length w ≡ n) × (n ≤ length before))
-write-exact {table} {before} c = writes-exactly (Wrote table) _ before (λ w h. (write-answered table _ w (c .small) h, write-fits table _ w h)) (λ w f. wrote-in f (length before)) (write-says c)
-
--- So does `to_table`, of an encoding and its table.
-pub table-exact : {bytes before after : List ℕ} {r : Made} → Tabled bytes before r after → (n : ℕ) → (r ≡ Written n) ↔ ((w : List ℕ) × Meant.Tabled bytes w × (length w ≡ n) × (n ≤ length before))
-table-exact {bytes} {before} c = writes-exactly (Meant.Tabled bytes) _ before (λ w h. (table-answered bytes _ w (c .small) h, table-fits bytes _ w h)) (λ w f. tabled-in f (length before)) (table-says c)

@@ -2,10 +2,10 @@
 --     front-is        after `Written n` the answer is the first n bytes of the buffer, and there are n
 --     front-holds     where the answer is w, of n bytes, the run says so, and w is the front of the buffer
 --     all-kept        where the answer is a refusal, the run says its number and place, and the buffer is as it was
---     refusal-is      after `Refused n p` the answer is that refusal
 --     fill-front-is, join-front-is, write-front-is, table-front-is     what a run that wrote n bytes answered
 --     fill-made, join-made, write-made, table-made         what that run was lent, and what it made
 --     filled-in, joined-in, wrote-in, tabled-in            what is made once is made in any room that there is for it, and else 12 has its length
+--     fill-makes-in, join-makes-in, write-makes-in, table-makes-in     so every run makes it
 -- Assumes nothing.
 use Prim.Native.Nat.{ℕ, _≤_, _<_}
 use mathlib.Core.Path.{_≡_, sym, _∙_, ap}
@@ -21,7 +21,7 @@ use Rattle.meaning.proofs.TableAnswers as Meant
 use Rattle.buffers.specs.declared.Made.{Made}
 use Rattle.buffers.specs.declared.Made.the-variants.{Written, Refused}
 use Rattle.promises.proofs.Calls.{Fill, Join, Write, Tabled}
-use Rattle.promises.proofs.Says.{Says, fill-says, join-says, write-says, table-says}
+use Rattle.promises.proofs.Says.{Says, MakesIn, fill-says, join-says, write-says, table-says}
 
 -- After `Written n` the answer is the first n bytes of the buffer, and there are n.
 pub front-is : (a : Answer) (before : List ℕ) {n : ℕ} {after : List ℕ} → Says a before (Written n) after → (a ≡ answered (take n after)) × (length (take n after) ≡ n)
@@ -38,11 +38,6 @@ front-holds a before w s h l = (s .0 ∙ rw (h, l), rw (← l, s .1, h) (buffer-
 -- Where the answer is a refusal, the run says its number and place, and the buffer is as it was.
 pub all-kept : (a : Answer) (before : List ℕ) (n p : ℕ) {r : Made} {after : List ℕ} → Says a before r after → a ≡ refused n p → (r ≡ Refused n p) × (after ≡ before)
 all-kept a before n p s h = (s .0 ∙ rw h, s .1 ∙ rw h (buffer-kept before n p))
-
--- After `Refused n p` the answer is that refusal.
-pub refusal-is : (a : Answer) (before : List ℕ) {n p : ℕ} {after : List ℕ} → Says a before (Refused n p) after → a ≡ refused n p
-refusal-is (answered w) before s = cc
-refusal-is (refused m q) before s = cc
 
 module _ {before after : List ℕ} {n : ℕ} where
   -- What a run that wrote n bytes answered.
@@ -91,3 +86,17 @@ wrote-in f = rw (f .T-is, f .is) (in-room _ _ (λ room. Meant.write-answers (f .
 -- and what the way back makes.
 pub tabled-in : {bytes w : List ℕ} → Meant.Tabled bytes w → (room : ℕ) → tableAnswer bytes room ≡ inRoom room w
 tabled-in f = rw (f .s-is, f .is) (in-room _ _ (λ room. Meant.table-answers (f .s) room (f .s-within)) (λ room. Meant.table-short (f .s) room (f .s-within)))
+
+module _ {w before after : List ℕ} {r : Made} where
+  -- So every run makes it.
+  pub fill-makes-in : {template sheet : List ℕ} → Filled template sheet w → Fill template sheet before r after → MakesIn w before r after
+  fill-makes-in f c = rw (← filled-in f (length before)) (fill-says c)
+
+  pub join-makes-in : {first second : List ℕ} → Joined first second w → Join first second before r after → MakesIn w before r after
+  join-makes-in f c = rw (← joined-in f (length before)) (join-says c)
+
+  pub write-makes-in : {table : List ℕ} → Meant.Wrote table w → Write table before r after → MakesIn w before r after
+  write-makes-in f c = rw (← wrote-in f (length before)) (write-says c)
+
+  pub table-makes-in : {bytes : List ℕ} → Meant.Tabled bytes w → Tabled bytes before r after → MakesIn w before r after
+  table-makes-in f c = rw (← tabled-in f (length before)) (table-says c)

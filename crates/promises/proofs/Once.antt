@@ -1,5 +1,6 @@
 -- One outcome: any two outcomes that a call's contract allows agree, in the answer, the refusal and its place, and in every byte of a lent buffer.
 --     read-once .. records-once     of each call
+--     agree-both                    two answers and buffers that equal the same are equal
 -- Assumes nothing.
 use Prim.Native.Nat.{ℕ}
 use mathlib.Core.Path.{_≡_, sym, _∙_}

@@ -1,4 +1,4 @@
--- The calls over the editor's records: laws of `write_records`.
+-- The laws behind the demands, over `write_records`.
 --     records-same            the outcome is that of `write` on the same table in bytes
 --     records-order           its answer is the refusal of number n at the place p exactly when a clause of specs/Order.antt gives these
 --     records-refuses         so it refuses
@@ -6,7 +6,7 @@
 --     records-fits            an answer is no longer than the lent buffer
 --     records-kept            after a refusal the lent buffer equals its entry
 --     records-front           after an answer of n bytes only its first n differ
---     records-exact           it writes exactly where the records are a table's, all is within the limits, and the lent buffer has the room
+--     RecordsWrote, records-made, records-in     what it makes: what the same table in bytes is written to
 -- Assumes nothing.
 use Prim.Native.Nat.{ℕ, _≤_, _<_}
 use mathlib.Core.Path.{_≡_, refl, _∙_}
@@ -14,34 +14,31 @@ use mathlib.Core.List.{List, [], _∷_, _++_, map, List·Memᴰ as OneOf, List·
 use mathlib.Core.Logic.{_↔_}
 use native.Mathlib.Omega.{arith}
 use lib.Dec.{ltb}
-use lib.ListN.{length}
+use lib.ListN.{length, take}
 use borrow.Author.Tests.{ltb-true, ltb-false, lt-ltb, le-ltb}
 use Rattle.meaning.specs.Limits.{maxNodes}
 use Rattle.meaning.specs.Refusals.{sectionBroken, nodeBroken, nameBroken, madeTooDeep, madeTooLong, bufferShort}
 use Rattle.meaning.specs.Within.{Bytes}
 use Rattle.meaning.specs.Table.{nodesBytes}
 use Rattle.meaning.specs.TableReading.{NodesFit}
-use Rattle.meaning.specs.Answers.{Answer, answered, refused, writeAnswer}
+use Rattle.meaning.specs.Answers.{Answer, answered, refused, inRoom, writeAnswer}
 use Rattle.meaning.proofs.Rules.{rule}
 use Rattle.meaning.proofs.Window.{bytes-append}
+use Rattle.meaning.proofs.Answers.{not-answered}
 use Rattle.meaning.proofs.TableBytes.{nodes-small, counted-small}
 use Rattle.meaning.proofs.TableAnswers.{Wrote, write-answered, write-fits}
 use Rattle.buffers.specs.declared.Made.{Made}
 use Rattle.buffers.specs.declared.Made.the-variants.{Written, Refused}
 use Rattle.editor.specs.declared.Node.{Node}
 use Rattle.editor.specs.Records.{meant, sameTable, recordsAnswer}
-use Rattle.promises.specs.Order.{RecordsRefuses, no-records, many-records, same-bad, FrontOnly}
+use Rattle.promises.specs.Order.{RecordsRefuses, no-records, many-records, same-bad}
+use Rattle.promises.specs.Told.{FrontOnly}
 use Rattle.promises.proofs.Calls.{Write, WriteRecords}
 use Rattle.promises.proofs.Says.{write-says, records-says}
 use Rattle.promises.proofs.Once.{agree-both}
 use Rattle.promises.proofs.Ordered.{Ordered, exactly, write-order}
 use Rattle.promises.proofs.Refusing.{made-refuses, made-kept, made-front, write-numbers}
-use Rattle.promises.proofs.Front.{wrote-in}
-use Rattle.promises.proofs.Exact.{writes-exactly}
-
--- A refusal is no answer.
-no-answer : {n p : ℕ} {w : List ℕ} {A : Type 0} → refused n p ≡ answered w → A
-no-answer e = let z : _≡_ {A = ℕ} 0 1 = cc in absurd (omega arith)
+use Rattle.promises.proofs.Front.{front-is, wrote-in}
 
 -- R holds of an answer's refusals, where it does of each refusal that the answer is.
 ordered : {R : ℕ → ℕ → Type 0} (a : Answer) → ((n p : ℕ) → a ≡ refused n p → R n p) → Ordered R a
@@ -86,7 +83,7 @@ module _ (nodes : List Node) (rest : List ℕ) (room : ℕ) where
 
   -- An answer has the room.
   pub records-fits : (w : List ℕ) → recordsAnswer nodes rest room ≡ answered w → length w ≤ room
-  records-fits w = by-count (λ a. a ≡ answered w → length w ≤ room) (λ _. no-answer) (λ _. no-answer) (λ _ _. write-fits (sameTable nodes rest) room w)
+  records-fits w = by-count (λ a. a ≡ answered w → length w ≤ room) (λ _ e. absurd (not-answered e)) (λ _ e. absurd (not-answered e)) (λ _ _. write-fits (sameTable nodes rest) room w)
 
 module _ {nodes : List Node} {rest before : List ℕ} where
   pub records-same : {r r' : Made} {after after' : List ℕ} → WriteRecords nodes rest before r after → Write (sameTable nodes rest) before r' after' → 1 ≤ length nodes → length nodes ≤ maxNodes
@@ -120,13 +117,13 @@ pub record RecordsWrote (nodes : List Node) (rest w : List ℕ) : Type 0 where
   pub few : length nodes ≤ maxNodes
   pub wrote : Wrote (sameTable nodes rest) w
 
--- `write_records` writes n bytes exactly where the records are a table's, that table and its shape are within the limits, the shape has n bytes, and
--- the buffer has the room.
-pub records-exact : {nodes : List Node} {rest before after : List ℕ} {r : Made} → WriteRecords nodes rest before r after → (n : ℕ) → (r ≡ Written n) ↔ ((w : List ℕ) × RecordsWrote nodes rest w × (length w ≡ n) × (n ≤ length before))
-records-exact {nodes} {rest} {before} c =
-    writes-exactly (RecordsWrote nodes rest) _ before (λ w h. (made w h, records-fits nodes rest (length before) w h)) (λ w f. few-answer nodes rest (length before) (f .some) (f .few) ∙ wrote-in (f .wrote) (length before)) (records-says c)
-  where
-    made : (w : List ℕ) → recordsAnswer nodes rest (length before) ≡ answered w → RecordsWrote nodes rest w
-    made w =
-        by-count nodes rest (length before) (λ a. a ≡ answered w → RecordsWrote nodes rest w) (λ _. no-answer) (λ _. no-answer) λ some few h.
-        record { some = some; few = few; wrote = write-answered (sameTable nodes rest) (length before) w (same-table-small nodes rest few (c .small)) h }
+-- `write_records` made what the records mean,
+pub records-made : {nodes : List Node} {rest before after : List ℕ} {n : ℕ} → WriteRecords nodes rest before (Written n) after → RecordsWrote nodes rest (take n after)
+records-made {nodes} {rest} {before} {after} {n} c =
+    by-count nodes rest (length before) (λ a. a ≡ answered (take n after) → RecordsWrote nodes rest (take n after)) (λ _ e. absurd (not-answered e)) (λ _ e. absurd (not-answered e))
+    (λ some few h. record { some = some; few = few; wrote = write-answered (sameTable nodes rest) (length before) _ (same-table-small nodes rest few (c .small)) h })
+    (front-is _ before (records-says c) .0)
+
+-- and makes it in any room that there is for it; else 12 has its length.
+pub records-in : {nodes : List Node} {rest w : List ℕ} → RecordsWrote nodes rest w → (room : ℕ) → recordsAnswer nodes rest room ≡ inRoom room w
+records-in f room = few-answer _ _ room (f .some) (f .few) ∙ wrote-in (f .wrote) room

@@ -1,7 +1,8 @@
--- Demand 1, over the calls: when a call refuses, with which number and place, and what a lent buffer holds afterwards.
+-- The laws behind demand 1, over the calls: when a call refuses, with which number and place, and what a lent buffer holds afterwards.
 --     read-refuses .. table-refuses     a call refuses with number n at the place p exactly when a clause of specs/Order.antt gives these
 --     read-numbers .. table-numbers     such a number is one of the call's list
---     positive                          so it is not 0
+--     positive                          so it is not 0, as no number of a list without 0 is (Positive)
+--     made-refuses, made-kept, made-front     the same of any call that writes
 --     fill-kept .. table-kept           after a refusal the lent buffer equals its entry
 --     fill-front .. table-front         after an answer of n bytes only its first n differ
 -- Assumes nothing.
@@ -40,7 +41,8 @@ use Rattle.parts.specs.declared.FoundName.the-variants as name
 use Rattle.parts.specs.Said.{toldChild, childSaid, nameSaid}
 use Rattle.sheets.specs.declared.Checked.{Checked}
 use Rattle.sheets.specs.Said.{checked}
-use Rattle.promises.specs.Order.{readNumbers, PartRefuses, encoding-bad, no-part, deep, long, unfit, no-room, FillRefuses, template-bad, sheet-bad, filled-bad, JoinRefuses, entries-over, entry-bad, bytes-over, sheet-no-room, first-bad, second-bad, joined-bad, WriteRefuses, table-bad, root-bad, TableRefuses, bytes-bad, table-no-room, CheckRefused, FrontOnly}
+use Rattle.promises.specs.Order.{readNumbers, PartRefuses, encoding-bad, no-part, deep, long, unfit, no-room, FillRefuses, template-bad, sheet-bad, filled-bad, JoinRefuses, entries-over, entry-bad, bytes-over, sheet-no-room, first-bad, second-bad, joined-bad, WriteRefuses, table-bad, root-bad, TableRefuses, bytes-bad, table-no-room, CheckRefused}
+use Rattle.promises.specs.Told.{FrontOnly}
 use Rattle.promises.proofs.Calls.{Read, ChildOf, NameOf, Check, Fill, Join, Write, Tabled}
 use Rattle.promises.proofs.Says.{read-says, child-says, name-says, check-says, Says, fill-says, join-says, write-says, table-says}
 use Rattle.promises.proofs.Ordered.{fill-order, join-order, write-order, table-order, partAnswer, part-order}

@@ -1,5 +1,6 @@
 -- What each run says, by the meaning alone.
 --     read-says .. records-says     the answer, and the buffer afterwards
+--     Says, MakesIn                 what a call that writes says: its answer; that it makes some bytes
 -- Assumes nothing.
 use Prim.Native.Nat.{ℕ}
 use mathlib.Core.Path.{_≡_, _∙_, ap}

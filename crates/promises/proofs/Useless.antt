@@ -48,9 +48,9 @@ use Rattle.sheets.specs.declared.Checked.the-variants.{Sound}
 use Rattle.sheets.specs.Said.{checked}
 use Rattle.answers.specs.declared.Answer.{Answer}
 use Rattle.answers.specs.Answers.{answered, refused}
-use Rattle.promises.specs.Order.{many-records, Answered, Makes}
+use Rattle.promises.specs.Order.{many-records}
+use Rattle.promises.specs.Told.{emptySheet, Answered, wrote, Makes}
 use Rattle.promises.proofs.Calls.{BoardRead, BoardChild, BoardName, BoardSheet, BoardFill, BoardJoin, BoardWrite, BoardRecords, BoardTable}
-use Rattle.promises.proofs.Stages.{emptySheet}
 use Rattle.promises.proofs.Below.{numbered, sized, placed, more, read-said, child-said, name-said, sheet-said, fill-makes, join-makes, write-makes, records-makes, table-makes}
 use Rattle.promises.proofs.Demand1.{board-records-tells}
 
@@ -158,21 +158,21 @@ module _ {w before after : List ℕ} {r : Answer} (m : Makes w before r after) w
   made-refused : length w ≤ length before → 0 < r .number → ⊥
   made-refused h = said-refused (m .enough h .0)
 
+  -- There is room for it, or there is not.
+  by-room : {P : Type 0} → ((r ≡ wrote (length w)) × (take (length w) after ≡ w) → P) → (r ≡ refused bufferShort (length w) → P) → P
+  by-room {P} enough short = go (ltb (length before) (length w)) refl
+    where
+      go : (t : Bool) → ltb (length before) (length w) ≡ t → P
+      go true e = short (m .short (ltb-true _ _ e) .0)
+      go false e = enough (m .enough (ltb-false _ _ e))
+
   -- What is answered is what is made,
   made-is : Answered r → take (r .length) after ≡ w
-  made-is z = go (ltb (length before) (length w)) refl
-    where
-      go : (t : Bool) → ltb (length before) (length w) ≡ t → take (r .length) after ≡ w
-      go true e = let q = numbered (m .short (ltb-true _ _ e) .0) in absurd (omega arith)
-      go false e = let f = m .enough (ltb-false _ _ e) in rw (sized (f .0)) (f .1)
+  made-is z = by-room (λ f. rw (sized (f .0)) (f .1)) (λ e. let q = numbered e in absurd (omega arith))
 
   -- and 12 carries its length.
   made-needs : r .number ≡ bufferShort → r .place ≡ length w
-  made-needs n = go (ltb (length before) (length w)) refl
-    where
-      go : (t : Bool) → ltb (length before) (length w) ≡ t → r .place ≡ length w
-      go true e = placed (m .short (ltb-true _ _ e) .0)
-      go false e = let q = numbered (m .enough (ltb-false _ _ e) .0) in absurd (omega arith)
+  made-needs n = by-room (λ f. let q = numbered (f .0) in absurd (omega arith)) placed
 
 module _ {r : Answer} where
   -- Refuses everything: `shiulbart_read` may not refuse Int,
@@ -281,7 +281,7 @@ module _ {before after : List ℕ} {r : Answer} where
 
   -- Takes 65,537 records for one, their number cut to two bytes: so many are refused, however the rest may fit one.
   pub wrapped-records : {nodes : List Node} {rest : List ℕ} → length nodes ≡ 65537 → BoardRecords nodes rest before r after → Answered r → ⊥
-  wrapped-records e c z = let f = board-records-tells c .0 sectionBroken 0 .1 (many-records (omega arith)) .1 in omega arith
+  wrapped-records e c z = let f = board-records-tells c .0 .exactly sectionBroken 0 .1 (many-records (omega arith)) .1 in omega arith
 
 -- Invents a count of children or of names: of a Record of two fields, what 18 carries is 2, and no other number.
 pub invented-children : {r : Answer} → BoardChild aRecord 2 r → r ≡ refused noSuchPart 2

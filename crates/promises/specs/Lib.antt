@@ -1,2 +1,3 @@
 pub mod Order
+pub mod Told
 pub mod Card

@@ -1,10 +1,9 @@
--- 01-scope.md: when each public call refuses, with which number n and at which place p, and what an exported call says and leaves. One constructor a clause, in the document's order; each says
+-- 01-scope.md: when each public call refuses, with which number n and at which place p. One constructor a clause, in the document's order; each says
 -- that nothing before it refuses. Reading itself (1 to 8), a sheet (13, 14) and a table (9 to 11) have theirs in the meaning. To be believed.
-use Prim.Native.Nat.{ℕ, _+_, _≤_, _<_}
+use Prim.Native.Nat.{ℕ, _≤_, _<_}
 use mathlib.Core.Path.{_≡_}
 use mathlib.Core.List.{List, [], _∷_, _++_}
-use mathlib.Core.Logic.{_↔_}
-use lib.ListN.{length, take, drop}
+use lib.ListN.{length}
 use Rattle.meaning.specs.Limits.{maxBytes, maxLevels, maxEntries, maxEncodings, maxNodes}
 use Rattle.meaning.specs.Refusals.{cutShort, notAssigned, sizeWrong, unfinished, notUtf8, longForm, tooDeep, inputTooLong, sectionBroken, bufferShort, sheetBroken, secondBroken, madeTooDeep, madeTooLong, joinedTooLarge, noSuchPart}
 use Rattle.meaning.specs.Shape.{Shape, depth}
@@ -19,8 +18,6 @@ use Rattle.editor.specs.declared.Node.{Node}
 use Rattle.editor.specs.Records.{sameTable}
 use Rattle.sheets.specs.declared.Checked.{Checked}
 use Rattle.sheets.specs.declared.Checked.the-variants.{Sound, Broken}
-use Rattle.answers.specs.declared.Answer.{Answer}
-use Rattle.answers.specs.Answers.{answered, refused}
 
 -- 1 to 8
 abbrev pub readNumbers : List ℕ
@@ -106,40 +103,3 @@ pub data TableRefuses (bytes : List ℕ) (room : ℕ) : ℕ → ℕ → Type 0 w
 abbrev pub CheckRefused : Checked → ℕ → ℕ → Type 0
 CheckRefused (Sound entries bytes) n p = ⊥
 CheckRefused (Broken place) n p = (n ≡ sheetBroken) × (p ≡ place)
-
--- "An answer that writes n bytes writes the first n of the lent buffer only."
-abbrev pub FrontOnly : ℕ → List ℕ → List ℕ → Type 0
-FrontOnly n before after = (n ≤ length before) × (length after ≡ length before) × (drop n after ≡ drop n before)
-
--- an exported call has answered: number 0 is no refusal
-abbrev pub Answered : Answer → Type 0
-Answered r = r .number ≡ 0
-
--- what an exported call says: a number other than 0, with its place, is given exactly when Refuses holds of both
-abbrev pub Tells : Answer → (ℕ → ℕ → Type 0) → Type 0
-Tells r Refuses = (n p : ℕ) → ((0 < n) × (r .number ≡ n) × (r .place ≡ p)) ↔ Refuses n p
-
--- what it leaves of a lent buffer
-abbrev pub Keeps : Answer → List ℕ → List ℕ → Type 0
-Keeps r before after = (0 < r .number → after ≡ before) × FrontOnly (r .length) before after
-
--- what it says when it has written n bytes
-abbrev pub wrote : ℕ → Answer
-wrote n = answered 0 n 0
-
--- it makes the bytes w: "given room enough", they are the answer and stand in the front of the lent buffer; else 12 is, at "the length needed", and
--- "no lent buffer is changed"
-pub record Makes (w before : List ℕ) (r : Answer) (after : List ℕ) : Type 0 where
-  pub enough : length w ≤ length before → (r ≡ wrote (length w)) × (take (length w) after ≡ w)
-  pub short : length before < length w → (r ≡ refused bufferShort (length w)) × (after ≡ before)
-
--- the answer for a child that has bytes, and for one of a packed parent, which has none
-abbrev pub HasBytes : Answer → Type 0
-HasBytes r = Answered r × (r .extra ≡ 0)
-
-abbrev pub HasNone : Answer → Type 0
-HasNone r = Answered r × (r .extra ≡ 1)
-
--- "inside the parent's payload": so many bytes at a place, after the first byte and the size, and up to the end or before it
-abbrev pub InPayload : List ℕ → ℕ → ℕ → Type 0
-InPayload bytes place size = (3 ≤ place) × (place + size ≤ length bytes)
