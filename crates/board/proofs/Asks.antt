@@ -1,6 +1,6 @@
 -- "It trusts no caller to have looked first": no public call asks anything. What a call asks, the whole of its `requires`, is nothing (`emp`, a
--- contract's ⊤ₛ), whatever its lifetimes κs and its arguments a are, in every model w of the logic; and so is what the checker reads of it (`Pre`). Of
--- the two calls on records the checker reads nothing (Plain.antt), and the first says it all.
+-- contract's ⊤ₛ), whatever its lifetimes κs and its arguments a are, in every model w of the logic; and so is what the checker reads of it (`Pre`). The
+-- two calls on records have no `Pre` (Plain.antt).
 --     read-asks-nothing .. records-asks-nothing                 the calls
 --     board-read-asks-nothing .. board-records-asks-nothing     the exported calls
 -- Assumes nothing.

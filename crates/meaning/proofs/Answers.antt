@@ -1,5 +1,6 @@
 -- What fill and join answer.
 --     fill-answered, join-answered     when they answer, and with what
+--     fill-room, join-room             where all is within the limits they answer, or refuse for want of room alone
 --     fill-answers, join-answers       they do answer then, where the lent buffer has the room
 --     fill-short, join-short           they refuse with 12 then, where it has not
 --     two-fills                        two fills are one fill with the joined sheet
@@ -149,7 +150,7 @@ fill-answered template sheet room w b c h =
     }
 
 -- A fill where all is within the limits is answered with the filled shape, or refused for want of room alone.
-fill-room : (t : Shape) (σ : Sheet) (room : ℕ) → Within t → SheetWithin σ → Within (fill σ t) → fillAnswer (encode t) (sheetBytes σ) room ≡ inRoom room (encode (fill σ t))
+pub fill-room : (t : Shape) (σ : Sheet) (room : ℕ) → Within t → SheetWithin σ → Within (fill σ t) → fillAnswer (encode t) (sheetBytes σ) room ≡ inRoom room (encode (fill σ t))
 unfolding fillAnswer onto
 fill-room t σ room a b c = rw (reading-encode t a, read-sheet sheetBroken σ b) (made-fits 0 (fill σ t) _ (c .shallow) (c .short))
 
@@ -200,7 +201,7 @@ join-answered first second room w b c h =
     }
 
 -- A joining where all is within the limits is answered with the joined sheet, or refused for want of room alone.
-join-room : (σ τ : Sheet) (room : ℕ) → SheetWithin σ → SheetWithin τ → SheetWithin (join σ τ) → joinAnswer (sheetBytes σ) (sheetBytes τ) room ≡ inRoom room (sheetBytes (join σ τ))
+pub join-room : (σ τ : Sheet) (room : ℕ) → SheetWithin σ → SheetWithin τ → SheetWithin (join σ τ) → joinAnswer (sheetBytes σ) (sheetBytes τ) room ≡ inRoom room (sheetBytes (join σ τ))
 unfolding joinAnswer madeSheet onto
 join-room σ τ room a b c =
     rw (read-sheet sheetBroken σ a, read-sheet secondBroken τ b, le-ltb maxEntries (length (join σ τ)) (c .few), all-fit (join σ τ) _ (fitting (join σ τ) c), le-ltb maxEncodings (length (encodings (join σ τ))) (c .short))

@@ -1,5 +1,6 @@
 -- What the writer and the way back answer.
 --     write-answered, table-answered     when they answer, and with what
+--     write-room, table-room             where all is within the limits they answer, or refuse for want of room alone
 --     write-answers, table-answers       they do answer then, where the lent buffer has the room
 --     write-short, table-short           they refuse with 12 then, where it has not
 --     write-fits, table-fits             an answer is no longer than the lent buffer
@@ -58,7 +59,7 @@ write-answered table room w b h =
     }
 
 -- A writing where all is within the limits is answered with what the table means, or refused for want of room alone.
-write-room : (T : Table) (room : ℕ) → TableWithin T → Within (tableShape T) → writeAnswer (tableBytes T) room ≡ inRoom room (encode (tableShape T))
+pub write-room : (T : Table) (room : ℕ) → TableWithin T → Within (tableShape T) → writeAnswer (tableBytes T) room ≡ inRoom room (encode (tableShape T))
 unfolding writeAnswer onto
 write-room T room a b = rw (read-table T a) (made-fits 0 (tableShape T) _ (b .shallow) (b .short))
 
@@ -116,7 +117,7 @@ table-answered bytes room w b h =
     record { s = s; s-is = e .0; s-within = e .1; is = sym (room-answered room _ w h .0) }
 
 -- A way back from a shape within the limits is answered with its table, or refused for want of room alone.
-table-room : (s : Shape) (room : ℕ) → Within s → tableAnswer (encode s) room ≡ inRoom room (tableBytes (tableOf s))
+pub table-room : (s : Shape) (room : ℕ) → Within s → tableAnswer (encode s) room ≡ inRoom room (tableBytes (tableOf s))
 unfolding tableAnswer onto
 table-room s room a = rw (reading-encode s a)
 

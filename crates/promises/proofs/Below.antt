@@ -39,7 +39,7 @@ use Rattle.sheets.specs.Said.{checked}
 use Rattle.editor.specs.declared.Node.{Node}
 use Rattle.editor.specs.Records.{recordsAnswer, recordsOutcome}
 use Rattle.answers.specs.declared.Answer.{Answer}
-use Rattle.answers.specs.Answers.{answered, refused, readPut, childPut, namePut, sheetPut, madePut}
+use Rattle.answers.specs.Answers.{refused, readPut, childPut, namePut, sheetPut, madePut}
 use Rattle.board.proofs.Plain.{Parameters}
 use Rattle.board.proofs.Small.{exported, exported-child, exported-name, exported-sheet}
 use Rattle.promises.specs.Told.{Answered, wrote, Makes}
@@ -105,8 +105,8 @@ module _ {r : Answer} where
 
     pub records-below : {nodes : List Node} {rest : List ℕ} → BoardRecords nodes rest before r after → Below madePut (λ m. WriteRecords nodes rest before m after) r
     records-below c =
-        let said = recordsOutcome (now (c .a .0)) (now (c .a .1 .0)) (now (c .a .1 .1 .0)) .0 in
-        record { m = said; run = records-as c (ap (λ (o : Answer × List ℕ). (said, o .1)) (c .allowed)); is = ap (λ (o : Answer × List ℕ). o .0) (c .allowed) }
+        let answer = recordsOutcome (now (c .a .0)) (now (c .a .1 .0)) (now (c .a .1 .1 .0)) .0 in
+        record { m = answer; run = records-as c (ap (λ (o : Answer × List ℕ). (answer, o .1)) (c .allowed)); is = ap (λ (o : Answer × List ℕ). o .0) (c .allowed) }
 
     pub table-below : {bytes : List ℕ} → BoardTable bytes before r after → Below madePut (λ m. Tabled bytes before m after) r
     table-below c = record { m = _; run = into-as c (refl, c .allowed .1); is = c .allowed .0 }
@@ -130,45 +130,45 @@ none-refused e l z = let q = numbered e in absurd (omega arith)
 
 module _ {r : Answer} (z : Answered r) where
   -- `shiulbart_read` answered: the encoding was accepted, with its length and depth.
-  pub read-accepted : {bytes : List ℕ} → BoardRead bytes r → Read bytes (judged.Accepted (r .length) (r .extra)) × (r ≡ answered 0 (r .length) (r .extra))
+  pub read-accepted : {bytes : List ℕ} → BoardRead bytes r → Read bytes (judged.Accepted (r .length) (r .extra))
   read-accepted {bytes} c = let b = read-below c in go (b .m) (b .run) (b .is)
     where
-      go : (m : Judgement) → Read bytes m → r ≡ readPut m → Read bytes (judged.Accepted (r .length) (r .extra)) × (r ≡ answered 0 (r .length) (r .extra))
-      go (judged.Accepted l d) run e = (rw (sized e, more e) run, e ∙ rw (sized e, more e))
+      go : (m : Judgement) → Read bytes m → r ≡ readPut m → Read bytes (judged.Accepted (r .length) (r .extra))
+      go (judged.Accepted l d) run e = rw (sized e, more e) run
       go (judged.Refused n p) run e = none-refused e (positive (omega arith) (read-numbers bytes (read-refuses run n p .0 refl))) z
 
   -- `shiulbart_sheet` answered: the sheet is sound, with its entries and bytes of encodings.
-  pub sheet-sound : {sheet : List ℕ} → BoardSheet sheet r → Check sheet (Sound (r .extra) (r .length)) × (r ≡ answered 0 (r .length) (r .extra))
+  pub sheet-sound : {sheet : List ℕ} → BoardSheet sheet r → Check sheet (Sound (r .extra) (r .length))
   sheet-sound {sheet} c = let b = sheet-below c in go (b .m) (b .run) (b .is)
     where
-      go : (m : Checked) → Check sheet m → r ≡ sheetPut m → Check sheet (Sound (r .extra) (r .length)) × (r ≡ answered 0 (r .length) (r .extra))
-      go (Sound entries bytes) run e = (rw (sized e, more e) run, e ∙ rw (sized e, more e))
+      go : (m : Checked) → Check sheet m → r ≡ sheetPut m → Check sheet (Sound (r .extra) (r .length))
+      go (Sound entries bytes) run e = rw (sized e, more e) run
       go (Broken p) run e = none-refused e (omega arith) z
 
   -- `shiulbart_child` answered, with extra 0: there is such a child, at its place, of its length.
-  pub child-part : {bytes : List ℕ} {k : ℕ} → BoardChild bytes k r → r .extra ≡ 0 → ChildOf bytes k (child.Part (r .place) (r .length)) × (r ≡ answered (r .place) (r .length) 0)
+  pub child-part : {bytes : List ℕ} {k : ℕ} → BoardChild bytes k r → r .extra ≡ 0 → ChildOf bytes k (child.Part (r .place) (r .length))
   child-part {bytes} {k} c x = let b = child-below c in go (b .m) (b .run) (b .is)
     where
-      go : (m : FoundChild) → ChildOf bytes k m → r ≡ childPut m → ChildOf bytes k (child.Part (r .place) (r .length)) × (r ≡ answered (r .place) (r .length) 0)
-      go (child.Part p l) run e = (rw (placed e, sized e) run, e ∙ rw (placed e, sized e))
+      go : (m : FoundChild) → ChildOf bytes k m → r ≡ childPut m → ChildOf bytes k (child.Part (r .place) (r .length))
+      go (child.Part p l) run e = rw (placed e, sized e) run
       go (child.Primitive n) run e = let q = more e in absurd (omega arith)
       go (child.Refused n p) run e = none-refused e (positive (omega arith) (part-numbers (child-refuses run n p .0 refl))) z
 
   -- With extra 1: there is such a child, a primitive of that number without bytes.
-  pub child-packed : {bytes : List ℕ} {k : ℕ} → BoardChild bytes k r → r .extra ≡ 1 → ChildOf bytes k (child.Primitive (r .place)) × (r ≡ answered (r .place) 0 1)
+  pub child-packed : {bytes : List ℕ} {k : ℕ} → BoardChild bytes k r → r .extra ≡ 1 → ChildOf bytes k (child.Primitive (r .place))
   child-packed {bytes} {k} c x = let b = child-below c in go (b .m) (b .run) (b .is)
     where
-      go : (m : FoundChild) → ChildOf bytes k m → r ≡ childPut m → ChildOf bytes k (child.Primitive (r .place)) × (r ≡ answered (r .place) 0 1)
+      go : (m : FoundChild) → ChildOf bytes k m → r ≡ childPut m → ChildOf bytes k (child.Primitive (r .place))
       go (child.Part p l) run e = let q = more e in absurd (omega arith)
-      go (child.Primitive n) run e = (rw (placed e) run, e ∙ rw (placed e))
+      go (child.Primitive n) run e = rw (placed e) run
       go (child.Refused n p) run e = none-refused e (positive (omega arith) (part-numbers (child-refuses run n p .0 refl))) z
 
   -- `shiulbart_name` answered: there is such a name, at its place, of its length.
-  pub name-text : {bytes : List ℕ} {k : ℕ} → BoardName bytes k r → NameOf bytes k (name.Text (r .place) (r .length)) × (r ≡ answered (r .place) (r .length) 0)
+  pub name-text : {bytes : List ℕ} {k : ℕ} → BoardName bytes k r → NameOf bytes k (name.Text (r .place) (r .length))
   name-text {bytes} {k} c = let b = name-below c in go (b .m) (b .run) (b .is)
     where
-      go : (m : FoundName) → NameOf bytes k m → r ≡ namePut m → NameOf bytes k (name.Text (r .place) (r .length)) × (r ≡ answered (r .place) (r .length) 0)
-      go (name.Text p l) run e = (rw (placed e, sized e) run, e ∙ rw (placed e, sized e))
+      go : (m : FoundName) → NameOf bytes k m → r ≡ namePut m → NameOf bytes k (name.Text (r .place) (r .length))
+      go (name.Text p l) run e = rw (placed e, sized e) run
       go (name.Refused n p) run e = none-refused e (positive (omega arith) (part-numbers (name-refuses run n p .0 refl))) z
 
   -- A call that writes answered: it wrote so many bytes, where a refusal of the call below has a number.
@@ -182,7 +182,7 @@ module _ {r : Answer} (z : Answered r) where
 -- What the call below makes, the exported call makes.
 pub makes : {Run : Made → Type 0} {r : Answer} {w before after : List ℕ} (b : Below madePut Run r) → MakesIn w before (b .m) after → Makes w before r after
 makes {w = w} {before = before} b s = record {
-  enough = λ h. let f = front-holds _ before w s (room-enough _ w h) refl in (b .is ∙ ap madePut (f .0), f .1);
+  enough = λ h. let f = front-holds _ before w s (room-enough _ w h) in (b .is ∙ ap madePut (f .0), f .1);
   short = λ h. let f = all-kept _ before bufferShort (length w) s (room-lacks _ w h) in (b .is ∙ ap madePut (f .0), f .1);
 }
 

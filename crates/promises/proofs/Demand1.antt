@@ -3,9 +3,9 @@
 -- (That no call asks anything stands where the calls are: board/proofs/Asks.antt.)
 --     board-read-runs .. board-table-runs           whatever bytes are lent, there is a run, and its four numbers fit 32 bits each
 --     board-read-once .. board-table-once           one outcome: what was lent the same bytes says the same, and leaves the same bytes
---     board-read-tells .. board-table-tells         it refuses with number n at the place p exactly when a clause of specs/Order.antt gives these, and
---                                                   the other two numbers are then 0; of a call that writes, what it leaves in the lent buffer besides
---     board-joined-rises                            the entries of a joined sheet, which the clauses of a joining go by, stand by rising number
+--     board-read-tells .. board-table-tells         it refuses with number n at the place p exactly when a clause of specs/Order.antt, or for read and sheet
+--                                                   reading itself, gives these, and the other two numbers are then 0; of a call that writes, what it leaves in the lent buffer besides
+--     joined-rises                                  of no call: the entries of a joined sheet, by which the clauses of a joining go, stand by rising number
 --     board-read-numbers .. board-table-numbers     the number of a refusal is one that the document lists for the call
 -- Assumes nothing.
 use Prim.Native.Nat.{ℕ, _<_, zero-le}
@@ -209,10 +209,6 @@ module _ {r : Answer} where
     pub board-join-tells : {first second : List ℕ} → BoardJoin first second before r after → Tells r (JoinRefuses first second (length before)) × Keeps r before after
     board-join-tells c = let b = join-below c in made-tells b (join-refuses (b .run)) join-some (λ n p. join-kept) (λ n. join-front)
 
-    -- Its clauses go by the entries of the joined sheet in order: they stand by rising number.
-    pub board-joined-rises : {first second : List ℕ} {σ τ : Sheet} {v w : List ℕ} → BoardJoin first second before r after → readSheet sheetBroken first ≡ got σ v → readSheet secondBroken second ≡ got τ w → Rising (join σ τ)
-    board-joined-rises {first} {second} c h g = join-rising _ _ (sheet-read sheetBroken first _ _ (c .small .0) h .1 .rising) (sheet-read secondBroken second _ _ (c .small .1) g .1 .rising)
-
     -- `shiulbart_write`: 9 to 11, 15, 16, 12.
     pub board-write-tells : {table : List ℕ} → BoardWrite table before r after → Tells r (WriteRefuses table (length before)) × Keeps r before after
     board-write-tells c = let b = write-below c in made-tells b (write-refuses (b .run)) write-some (λ n p. write-kept) (λ n. write-front)
@@ -224,6 +220,10 @@ module _ {r : Answer} where
     -- `shiulbart_table`: 1 to 8, 12.
     pub board-table-tells : {bytes : List ℕ} → BoardTable bytes before r after → Tells r (TableRefuses bytes (length before)) × Keeps r before after
     board-table-tells c = let b = table-below c in made-tells b (table-refuses (b .run)) table-some (λ n p. table-kept) (λ n. table-front)
+
+-- The clauses of a joining go by the entries of the joined sheet in order: they stand by rising number.
+pub joined-rises : (first second : List ℕ) {σ τ : Sheet} {v w : List ℕ} → Bytes first → Bytes second → readSheet sheetBroken first ≡ got σ v → readSheet secondBroken second ≡ got τ w → Rising (join σ τ)
+joined-rises first second b c h g = join-rising _ _ (sheet-read sheetBroken first _ _ b h .1 .rising) (sheet-read secondBroken second _ _ c g .1 .rising)
 
 -- The clause that gives a refusal.
 clause : (r : Answer) {R : ℕ → ℕ → Type 0} → Tells r R → 0 < r .number → R (r .number) (r .place)

@@ -43,21 +43,21 @@ use Rattle.promises.proofs.Calls.{BoardRead, BoardChild, BoardName, Boa
 use Rattle.promises.proofs.Front.{fill-made, join-made, write-made, table-made, filled-in, joined-in, wrote-in, tabled-in}
 use Rattle.promises.proofs.Exact.{read-exact, check-exact, table-back, table-again, write-back, table-longest, fill-replaces, join-joins}
 use Rattle.promises.proofs.Records.{RecordsWrote, records-same, records-made, records-in}
-use Rattle.promises.proofs.Found.{child-exact, packed-exact, name-exact, child-stands, children-apart, packed-is, name-stands}
+use Rattle.promises.proofs.Found.{child-exact, name-exact, child-stands, children-apart, packed-is, name-stands}
 use Rattle.promises.proofs.Below.{alike, numbered, placed, sized, more, read-below, child-below, name-below, sheet-below, write-below, records-below, table-below, read-accepted, sheet-sound, child-part, child-packed, name-text, makes, fill-makes, join-makes, write-makes, records-makes, table-makes, fill-wrote, join-wrote, write-wrote, records-wrote, table-wrote}
 
 module _ {r : Answer} where
   -- `shiulbart_read` accepts exactly the encodings of the shapes within the limits, and says their length and depth.
   pub board-read-exact : {bytes : List ℕ} → BoardRead bytes r → (l d : ℕ) → (r ≡ answered 0 l d) ↔ ((s : Shape) × IsShape bytes s × (l ≡ length bytes) × (d ≡ depth s))
   board-read-exact c l d = (
-    λ h. let e = read-exact (read-accepted (numbered h) c .0) (r .length) (r .extra) .0 refl in (e .0, e .1, sym (sized h) ∙ e .2, sym (more h) ∙ e .3),
+    λ h. let e = read-exact (read-accepted (numbered h) c) (r .length) (r .extra) .0 refl in (e .0, e .1, sym (sized h) ∙ e .2, sym (more h) ∙ e .3),
     λ h. let b = read-below c in b .is ∙ ap readPut (read-exact (b .run) l d .1 h),
   )
 
   -- `shiulbart_sheet` accepts exactly the bytes of the sheets within the limits, and says how many bytes of encodings and entries they have.
   pub board-sheet-exact : {sheet : List ℕ} → BoardSheet sheet r → (l e : ℕ) → (r ≡ answered 0 l e) ↔ ((σ : Sheet) × IsSheet sheet σ × (l ≡ length (encodings σ)) × (e ≡ length σ))
   board-sheet-exact c l e = (
-    λ h. let q = check-exact (sheet-sound (numbered h) c .0) (r .extra) (r .length) .0 refl in (q .0, q .1, sym (sized h) ∙ q .3, sym (more h) ∙ q .2),
+    λ h. let q = check-exact (sheet-sound (numbered h) c) (r .extra) (r .length) .0 refl in (q .0, q .1, sym (sized h) ∙ q .3, sym (more h) ∙ q .2),
     λ h. let b = sheet-below c in b .is ∙ ap sheetPut (check-exact (b .run) e l .1 (h .0, h .1, h .3, h .2)),
   )
 
@@ -125,27 +125,27 @@ module _ {bytes : List ℕ} {k : ℕ} {r : Answer} where
   -- What is said of a child is exactly what child k of the shape is: its place and length,
   pub board-child-exact : BoardChild bytes k r → (place size : ℕ) → (r ≡ answered place size 0) ↔ Found bytes (λ s. (k < length (children s)) × (childOf s k ≡ part place size))
   board-child-exact c place size = (
-    λ h. rw (placed h, sized h) at (child-exact (child-part (numbered h) c (more h) .0) (r .place) (r .length) .0 refl),
-    λ f. let b = child-below c in b .is ∙ ap childPut (child-exact (b .run) place size .1 f),
+    λ h. rw (placed h, sized h) at (child-exact (child-part (numbered h) c (more h)) (part (r .place) (r .length)) .0 refl),
+    λ f. let b = child-below c in b .is ∙ ap childPut (child-exact (b .run) (part place size) .1 f),
   )
 
   -- or, where the parent is packed, a primitive's number.
   pub board-packed-exact : BoardChild bytes k r → (number : ℕ) → (r ≡ answered number 0 1) ↔ Found bytes (λ s. (k < length (children s)) × (childOf s k ≡ packedPrim number))
   board-packed-exact c number = (
-    λ h. rw (placed h) at (packed-exact (child-packed (numbered h) c (more h) .0) (r .place) .0 refl),
-    λ f. let b = child-below c in b .is ∙ ap childPut (packed-exact (b .run) number .1 f),
+    λ h. rw (placed h) at (child-exact (child-packed (numbered h) c (more h)) (packedPrim (r .place)) .0 refl),
+    λ f. let b = child-below c in b .is ∙ ap childPut (child-exact (b .run) (packedPrim number) .1 f),
   )
 
   -- What is said of a name is exactly where name k of the shape is, and how long.
   pub board-name-exact : BoardName bytes k r → (place size : ℕ) → (r ≡ answered place size 0) ↔ Found bytes (λ s. (k < length (names s)) × (namePlace s k ≡ place) × (length (nameText s k) ≡ size))
   board-name-exact c place size = (
-    λ h. rw (placed h, sized h) at (name-exact (name-text (numbered h) c .0) (r .place) (r .length) .0 refl),
+    λ h. rw (placed h, sized h) at (name-exact (name-text (numbered h) c) (r .place) (r .length) .0 refl),
     λ f. let b = name-below c in b .is ∙ ap namePut (name-exact (b .run) place size .1 f),
   )
 
   -- A child with bytes stands inside the parent's payload, and is the encoding of the parent's child k, which is within the limits.
   pub board-child-is : BoardChild bytes k r → HasBytes r → Found bytes (λ s. (k < length (children s)) × IsShape (take (r .length) (drop (r .place) bytes)) (childShape s k) × InPayload bytes (r .place) (r .length))
-  board-child-is c h = child-stands (child-part (h .0) c (h .1) .0)
+  board-child-is c h = child-stands (child-part (h .0) c (h .1))
 
   -- So `shiulbart_read` accepts it, whole.
   pub board-child-read : {r′ : Answer} → BoardChild bytes k r → HasBytes r → BoardRead (take (r .length) (drop (r .place) bytes)) r′ → Answered r′ × (r′ .length ≡ r .length)
@@ -156,12 +156,12 @@ module _ {bytes : List ℕ} {k : ℕ} {r : Answer} where
 
   -- Of two children with bytes the first ends where the second starts, or before: they share no byte.
   pub board-child-apart : {j : ℕ} {r′ : Answer} → BoardChild bytes j r′ → HasBytes r′ → BoardChild bytes k r → HasBytes r → j < k → r′ .place + r′ .length ≤ r .place
-  board-child-apart c h d g = children-apart (child-part (h .0) c (h .1) .0) (child-part (g .0) d (g .1) .0)
+  board-child-apart c h d g = children-apart (child-part (h .0) c (h .1)) (child-part (g .0) d (g .1))
 
   -- A child without bytes, of a packed parent, is the primitive whose number is told.
   pub board-child-packed : BoardChild bytes k r → HasNone r → Found bytes (λ s. (k < length (children s)) × ((p : Primitive) × (childShape s k ≡ prim p) × (r .place ≡ code p)))
-  board-child-packed c h = packed-is (child-packed (h .0) c (h .1) .0)
+  board-child-packed c h = packed-is (child-packed (h .0) c (h .1))
 
   -- A name's bytes are its text, inside the payload.
   pub board-name-is : BoardName bytes k r → Answered r → Found bytes (λ s. (k < length (names s)) × (take (r .length) (drop (r .place) bytes) ≡ nameText s k) × InPayload bytes (r .place) (r .length))
-  board-name-is c z = name-stands (name-text z c .0)
+  board-name-is c z = name-stands (name-text z c)

@@ -57,11 +57,11 @@ module _ {b₁ a₁ b₂ a₂ b₃ a₃ b₄ a₄ : List ℕ} {r₁ r₂ r₃ r�
 module _ {before after : List ℕ} {r r′ : Answer} where
   -- The empty sheet changes no shape: filled with it, an accepted encoding is made again.
   pub board-empty-fills : {bytes : List ℕ} → BoardRead bytes r → Answered r → BoardFill bytes emptySheet before r′ after → Makes bytes before r′ after
-  board-empty-fills c z f = let b = fill-below f in makes b (empty-fills (read-accepted z c .0) (b .run))
+  board-empty-fills c z f = let b = fill-below f in makes b (empty-fills (read-accepted z c) (b .run))
 
   -- It changes no sheet, as the first or as the second: joined with it, a sound sheet is made again.
   pub board-empty-first : {sheet : List ℕ} → BoardSheet sheet r → Answered r → BoardJoin emptySheet sheet before r′ after → Makes sheet before r′ after
-  board-empty-first c z f = let b = join-below f in makes b (empty-first (sheet-sound z c .0) (b .run))
+  board-empty-first c z f = let b = join-below f in makes b (empty-first (sheet-sound z c) (b .run))
 
   pub board-empty-second : {sheet : List ℕ} → BoardSheet sheet r → Answered r → BoardJoin sheet emptySheet before r′ after → Makes sheet before r′ after
-  board-empty-second c z f = let b = join-below f in makes b (empty-second (sheet-sound z c .0) (b .run))
+  board-empty-second c z f = let b = join-below f in makes b (empty-second (sheet-sound z c) (b .run))

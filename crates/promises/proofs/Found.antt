@@ -1,5 +1,5 @@
 -- What `child` and `name` found, by the shape of the bytes.
---     child-exact, packed-exact     `child` says exactly what child k of the shape is: a place and a length, or a primitive's number
+--     child-exact                   `child` says exactly what child k of the shape is: a place and a length, or a primitive's number
 --     name-exact                    `name` says exactly where name k of the shape is, and how long
 --     child-stands                  the bytes at a child's place are its encoding, inside the parent's payload
 --     children-apart                children with bytes stand in order, and share none
@@ -42,40 +42,27 @@ by-shape {R} {bytes} f {r} P b e found none = go (reading bytes) refl e
     go (got s v) p h = let i = encode-reading bytes s v b p in (s, record { encoded = i .0; within = i .1 }, found s v h)
     go (bad n p) q h = absurd (none n p h)
 
--- A child told as a place and a length has them,
-told-part : {place size : ℕ} (c : Child) → child.Part place size ≡ toldChild c → c ≡ part place size
-told-part (part p l) h = cc
-told-part (packedPrim n) h = let z : _≡_ {A = ℕ} 0 1 = cc in absurd (omega arith)
+-- What is told of two children alike is one child; and no refusal is told of one.
+told-once : (c d : Child) → toldChild c ≡ toldChild d → c ≡ d
+told-once (part p l) (part q m) h = cc
+told-once (part p l) (packedPrim n) h = let z : _≡_ {A = ℕ} 0 1 = cc in absurd (omega arith)
+told-once (packedPrim n) (part p l) h = let z : _≡_ {A = ℕ} 0 1 = cc in absurd (omega arith)
+told-once (packedPrim n) (packedPrim m) h = cc
 
--- and one told as a number has that.
-told-packed : {number : ℕ} (c : Child) → child.Primitive number ≡ toldChild c → c ≡ packedPrim number
-told-packed (part p l) h = let z : _≡_ {A = ℕ} 0 1 = cc in absurd (omega arith)
-told-packed (packedPrim n) h = cc
+told-fine : {n p : ℕ} (c : Child) → toldChild c ≡ child.Refused n p → ⊥
+told-fine (part q l) h = let z : _≡_ {A = ℕ} 0 1 = cc in omega arith
+told-fine (packedPrim m) h = let z : _≡_ {A = ℕ} 0 1 = cc in omega arith
 
 module _ {bytes : List ℕ} {k : ℕ} where
-  -- What is said of a child that there is.
-  child-said-so : {s : Shape} → IsShape bytes s → k < length (children s) → childSaid (reading bytes) k ≡ toldChild (childOf s k)
-  child-said-so {s} i l = rw (i .encoded, reading-encode s (i .within), lt-ltb k (length (children s)) l)
-
-  -- `child` says exactly where child k of the shape is, and how long,
-  pub child-exact : {r : FoundChild} → ChildOf bytes k r → (place size : ℕ) → (r ≡ child.Part place size) ↔ Found bytes (λ s. (k < length (children s)) × (childOf s k ≡ part place size))
-  child-exact {r} c place size = (
-    λ h. by-shape (λ x. childSaid x k) _ (c .small) (sym h ∙ child-says c) found (λ n p e. let z : _≡_ {A = ℕ} 0 1 = cc in omega arith),
-    λ f. child-says c ∙ child-said-so (f .1) (f .2 .0) ∙ ap toldChild (f .2 .1),
-  )
+  -- `child` says exactly what child k of the shape is: a place and a length, or a primitive's number where the parent is packed.
+  pub child-exact : {r : FoundChild} → ChildOf bytes k r → (d : Child) → (r ≡ toldChild d) ↔ Found bytes (λ s. (k < length (children s)) × (childOf s k ≡ d))
+  child-exact {r} c d = (λ h. by-shape (λ x. childSaid x k) _ (c .small) (sym h ∙ child-says c) found (λ n p. told-fine d), λ f. child-says c ∙ said-so (f .1) (f .2 .0) ∙ ap toldChild (f .2 .1))
     where
-      found : (s : Shape) (v : List ℕ) → child.Part place size ≡ childSaid (got s v) k → (k < length (children s)) × (childOf s k ≡ part place size)
-      found s v = rule (λ d. child.Part place size ≡ d → (k < length (children s)) × (childOf s k ≡ part place size)) (ltb k (length (children s))) _ _ (λ t h. (ltb-true _ _ t, told-part _ h)) (λ _ h. let z : _≡_ {A = ℕ} 0 1 = cc in absurd (omega arith))
+      found : (s : Shape) (v : List ℕ) → toldChild d ≡ childSaid (got s v) k → (k < length (children s)) × (childOf s k ≡ d)
+      found s v = rule (λ e. toldChild d ≡ e → (k < length (children s)) × (childOf s k ≡ d)) (ltb k (length (children s))) _ _ (λ t h. (ltb-true _ _ t, told-once _ _ (sym h))) (λ _ h. absurd (told-fine d h))
 
-  -- or which primitive it is, where the parent is packed.
-  pub packed-exact : {r : FoundChild} → ChildOf bytes k r → (number : ℕ) → (r ≡ child.Primitive number) ↔ Found bytes (λ s. (k < length (children s)) × (childOf s k ≡ packedPrim number))
-  packed-exact {r} c number = (
-    λ h. by-shape (λ x. childSaid x k) _ (c .small) (sym h ∙ child-says c) found (λ n p e. let z : _≡_ {A = ℕ} 0 1 = cc in omega arith),
-    λ f. child-says c ∙ child-said-so (f .1) (f .2 .0) ∙ ap toldChild (f .2 .1),
-  )
-    where
-      found : (s : Shape) (v : List ℕ) → child.Primitive number ≡ childSaid (got s v) k → (k < length (children s)) × (childOf s k ≡ packedPrim number)
-      found s v = rule (λ d. child.Primitive number ≡ d → (k < length (children s)) × (childOf s k ≡ packedPrim number)) (ltb k (length (children s))) _ _ (λ t h. (ltb-true _ _ t, told-packed _ h)) (λ _ h. let z : _≡_ {A = ℕ} 0 1 = cc in absurd (omega arith))
+      said-so : {s : Shape} → IsShape bytes s → k < length (children s) → childSaid (reading bytes) k ≡ toldChild (childOf s k)
+      said-so {s} i l = rw (i .encoded, reading-encode s (i .within), lt-ltb k (length (children s)) l)
 
   -- `name` says exactly where name k of the shape is, and how long.
   pub name-exact : {r : FoundName} → NameOf bytes k r → (place size : ℕ) → (r ≡ name.Text place size) ↔ Found bytes (λ s. (k < length (names s)) × (namePlace s k ≡ place) × (length (nameText s k) ≡ size))
@@ -107,7 +94,7 @@ part-of {s} {k} {place} {size} l =
 -- The bytes at a child's place are its encoding, inside the parent's payload.
 pub child-stands : {bytes : List ℕ} {k place size : ℕ} → ChildOf bytes k (child.Part place size)
     → Found bytes (λ s. (k < length (children s)) × IsShape (take size (drop place bytes)) (childShape s k) × InPayload bytes place size)
-child-stands {bytes} {k} {place} {size} c = let f = child-exact c place size .0 refl in (f .0, f .1, stands (f .1) (part-of (f .2 .0) (f .2 .1)))
+child-stands {bytes} {k} {place} {size} c = let f = child-exact c (part place size) .0 refl in (f .0, f .1, stands (f .1) (part-of (f .2 .0) (f .2 .1)))
   where
     stands : {s : Shape} → IsShape bytes s → PartOf s k place size → (k < length (children s)) × IsShape (take size (drop place bytes)) (childShape s k) × InPayload bytes place size
     stands {s} w p =
@@ -120,7 +107,7 @@ parts-apart {s} {j = j} {k = k} e p q l = let q = rw e at q in rw (p .placed, p 
 -- So do two children of the same bytes.
 pub children-apart : {bytes : List ℕ} {j k place size place′ size′ : ℕ} → ChildOf bytes j (child.Part place size) → ChildOf bytes k (child.Part place′ size′) → j < k → place + size ≤ place′
 children-apart {place = place} {size = size} {place′ = place′} {size′ = size′} c d =
-    let f = child-exact c place size .0 refl in let g = child-exact d place′ size′ .0 refl in
+    let f = child-exact c (part place size) .0 refl in let g = child-exact d (part place′ size′) .0 refl in
     parts-apart (same-exactly (g .1) (f .1) .0 refl) (part-of (f .2 .0) (f .2 .1)) (part-of (g .2 .0) (g .2 .1))
 
 -- The number of a packed child is that of a primitive.
@@ -133,7 +120,7 @@ packed-of s {k} {number} l =
 
 -- A child of a packed parent is the primitive of that number.
 pub packed-is : {bytes : List ℕ} {k number : ℕ} → ChildOf bytes k (child.Primitive number) → Found bytes (λ s. (k < length (children s)) × ((p : Primitive) × (childShape s k ≡ prim p) × (number ≡ code p)))
-packed-is {number = number} c = let f = packed-exact c number .0 refl in (f .0, f .1, (f .2 .0, packed-of (f .0) (f .2 .0) (f .2 .1)))
+packed-is {number = number} c = let f = child-exact c (packedPrim number) .0 refl in (f .0, f .1, (f .2 .0, packed-of (f .0) (f .2 .0) (f .2 .1)))
 
 -- The bytes at a name's place are its text, inside the payload.
 pub name-stands : {bytes : List ℕ} {k place size : ℕ} → NameOf bytes k (name.Text place size) → Found bytes (λ s. (k < length (names s)) × (take size (drop place bytes) ≡ nameText s k) × InPayload bytes place size)

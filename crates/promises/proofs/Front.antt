@@ -1,22 +1,18 @@
 -- What a run that writes leaves in the lent buffer.
 --     front-is        after `Written n` the answer is the first n bytes of the buffer, and there are n
---     front-holds     where the answer is w, of n bytes, the run says so, and w is the front of the buffer
+--     front-holds     where the answer is w, the run says so, and w is the front of the buffer
 --     all-kept        where the answer is a refusal, the run says its number and place, and the buffer is as it was
 --     fill-front-is, join-front-is, write-front-is, table-front-is     what a run that wrote n bytes answered
 --     fill-made, join-made, write-made, table-made         what that run was lent, and what it made
 --     filled-in, joined-in, wrote-in, tabled-in            what is made once is made in any room that there is for it, and else 12 has its length
 --     fill-makes-in, join-makes-in, write-makes-in, table-makes-in     so every run makes it
 -- Assumes nothing.
-use Prim.Native.Nat.{ℕ, _≤_, _<_}
+use Prim.Native.Nat.{ℕ}
 use mathlib.Core.Path.{_≡_, sym, _∙_, ap}
 use mathlib.Core.List.{List}
-use lib.Dec.{ltb}
 use lib.ListN.{length, take}
-use borrow.Author.Tests.{ltb-true, ltb-false}
-use Rattle.meaning.specs.Refusals.{bufferShort}
 use Rattle.meaning.specs.Answers.{Answer, answered, refused, inRoom, fillAnswer, joinAnswer, writeAnswer, tableAnswer}
-use Rattle.meaning.proofs.Rules.{rule}
-use Rattle.meaning.proofs.Answers.{buffer-front, buffer-kept, Filled, fill-answered, fill-answers, fill-short, Joined, join-answered, join-answers, join-short}
+use Rattle.meaning.proofs.Answers.{buffer-front, buffer-kept, Filled, fill-answered, fill-room, Joined, join-answered, join-room}
 use Rattle.meaning.proofs.TableAnswers as Meant
 use Rattle.buffers.specs.declared.Made.{Made}
 use Rattle.buffers.specs.declared.Made.the-variants.{Written, Refused}
@@ -31,9 +27,9 @@ front-is (answered w) before {n} {after} s = (ap answered (sym front), rw front 
     front = let l : n ≡ length w = cc in rw (s .1, l) (buffer-front before w)
 front-is (refused m p) before {n} {after} s = (cc, cc)
 
--- Where the answer is w, of n bytes, the run says so, and w is the front of the buffer.
-pub front-holds : (a : Answer) (before w : List ℕ) {r : Made} {after : List ℕ} {n : ℕ} → Says a before r after → a ≡ answered w → length w ≡ n → (r ≡ Written n) × (take n after ≡ w)
-front-holds a before w s h l = (s .0 ∙ rw (h, l), rw (← l, s .1, h) (buffer-front before w))
+-- Where the answer is w, the run says so, and w is the front of the buffer.
+pub front-holds : (a : Answer) (before w : List ℕ) {r : Made} {after : List ℕ} → Says a before r after → a ≡ answered w → (r ≡ Written (length w)) × (take (length w) after ≡ w)
+front-holds a before w s h = (s .0 ∙ rw h, rw (s .1, h) (buffer-front before w))
 
 -- Where the answer is a refusal, the run says its number and place, and the buffer is as it was.
 pub all-kept : (a : Answer) (before : List ℕ) (n p : ℕ) {r : Made} {after : List ℕ} → Says a before r after → a ≡ refused n p → (r ≡ Refused n p) × (after ≡ before)
@@ -66,26 +62,21 @@ module _ {before after : List ℕ} {n : ℕ} where
   pub table-made : {bytes : List ℕ} → Tabled bytes before (Written n) after → Meant.Tabled bytes (take n after)
   table-made {bytes} c = Meant.table-answered bytes (length before) (take n after) (c .small) (table-front-is c)
 
--- What is the answer wherever there is room for it, and else is refused with 12 and its length.
-in-room : (answer : ℕ → Answer) (w : List ℕ) → ((room : ℕ) → length w ≤ room → answer room ≡ answered w) → ((room : ℕ) → room < length w → answer room ≡ refused bufferShort (length w)) → (room : ℕ) → answer room ≡ inRoom room w
-unfolding inRoom
-in-room answer w enough short room = rule (λ a. answer room ≡ a) (ltb room (length w)) _ _ (λ t. short room (ltb-true _ _ t)) (λ t. enough room (ltb-false _ _ t))
-
--- So is what a fill makes,
+-- What is made once is made in any room that there is for it, and else 12 has its length: what a fill makes,
 pub filled-in : {template sheet w : List ℕ} → Filled template sheet w → (room : ℕ) → fillAnswer template sheet room ≡ inRoom room w
-filled-in f = rw (f .t-is, f .σ-is, f .is) (in-room _ _ (λ room. fill-answers (f .t) (f .σ) room (f .t-within) (f .σ-within) (f .made-within)) (λ room. fill-short (f .t) (f .σ) room (f .t-within) (f .σ-within) (f .made-within)))
+filled-in f room = rw (f .t-is, f .σ-is, f .is) (fill-room (f .t) (f .σ) room (f .t-within) (f .σ-within) (f .made-within))
 
 -- what a joining makes,
 pub joined-in : {first second w : List ℕ} → Joined first second w → (room : ℕ) → joinAnswer first second room ≡ inRoom room w
-joined-in f = rw (f .σ-is, f .τ-is, f .is) (in-room _ _ (λ room. join-answers (f .σ) (f .τ) room (f .σ-within) (f .τ-within) (f .made-within)) (λ room. join-short (f .σ) (f .τ) room (f .σ-within) (f .τ-within) (f .made-within)))
+joined-in f room = rw (f .σ-is, f .τ-is, f .is) (join-room (f .σ) (f .τ) room (f .σ-within) (f .τ-within) (f .made-within))
 
 -- what the writer makes,
 pub wrote-in : {table w : List ℕ} → Meant.Wrote table w → (room : ℕ) → writeAnswer table room ≡ inRoom room w
-wrote-in f = rw (f .T-is, f .is) (in-room _ _ (λ room. Meant.write-answers (f .T) room (f .T-within) (f .made-within)) (λ room. Meant.write-short (f .T) room (f .T-within) (f .made-within)))
+wrote-in f room = rw (f .T-is, f .is) (Meant.write-room (f .T) room (f .T-within) (f .made-within))
 
 -- and what the way back makes.
 pub tabled-in : {bytes w : List ℕ} → Meant.Tabled bytes w → (room : ℕ) → tableAnswer bytes room ≡ inRoom room w
-tabled-in f = rw (f .s-is, f .is) (in-room _ _ (λ room. Meant.table-answers (f .s) room (f .s-within)) (λ room. Meant.table-short (f .s) room (f .s-within)))
+tabled-in f room = rw (f .s-is, f .is) (Meant.table-room (f .s) room (f .s-within))
 
 module _ {w before after : List ℕ} {r : Made} where
   -- So every run makes it.

@@ -1,9 +1,7 @@
 -- The laws behind the demands, over `write_records`.
 --     records-same            the outcome is that of `write` on the same table in bytes
---     records-order           its answer is the refusal of number n at the place p exactly when a clause of specs/Order.antt gives these
---     records-refuses         so it refuses
+--     records-refuses         it refuses with number n at the place p exactly when a clause of specs/Order.antt gives these
 --     records-numbers         such a number is one of the writer's
---     records-fits            an answer is no longer than the lent buffer
 --     records-kept            after a refusal the lent buffer equals its entry
 --     records-front           after an answer of n bytes only its first n differ
 --     RecordsWrote, records-made, records-in     what it makes: what the same table in bytes is written to
@@ -75,14 +73,14 @@ module _ (nodes : List Node) (rest : List ℕ) (room : ℕ) where
   records-clause {n} {p} (same-bad some few h) = few-answer some few ∙ write-order (sameTable nodes rest) room n p .1 h
 
   -- What is answered is a refusal exactly by its clauses.
-  pub records-order : (n p : ℕ) → (recordsAnswer nodes rest room ≡ refused n p) ↔ RecordsRefuses nodes rest room n p
+  records-order : (n p : ℕ) → (recordsAnswer nodes rest room ≡ refused n p) ↔ RecordsRefuses nodes rest room n p
   records-order n p = exactly R (by-count (Ordered R) no-records many-records λ some few. ordered _ (λ n p e. same-bad some few (write-order (sameTable nodes rest) room n p .0 e))) records-clause
     where
       R : ℕ → ℕ → Type 0
       R = RecordsRefuses nodes rest room
 
   -- An answer has the room.
-  pub records-fits : (w : List ℕ) → recordsAnswer nodes rest room ≡ answered w → length w ≤ room
+  records-fits : (w : List ℕ) → recordsAnswer nodes rest room ≡ answered w → length w ≤ room
   records-fits w = by-count (λ a. a ≡ answered w → length w ≤ room) (λ _ e. absurd (not-answered e)) (λ _ e. absurd (not-answered e)) (λ _ _. write-fits (sameTable nodes rest) room w)
 
 module _ {nodes : List Node} {rest before : List ℕ} where

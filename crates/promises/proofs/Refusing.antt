@@ -1,5 +1,6 @@
 -- The laws behind demand 1, over the calls: when a call refuses, with which number and place, and what a lent buffer holds afterwards.
---     read-refuses .. table-refuses     a call refuses with number n at the place p exactly when a clause of specs/Order.antt gives these
+--     read-refuses .. table-refuses     a call refuses with number n at the place p exactly when a clause of specs/Order.antt, or for `read` and `check`
+--                                       reading itself, gives these
 --     read-numbers .. table-numbers     such a number is one of the call's list
 --     positive                          so it is not 0, as no number of a list without 0 is (Positive)
 --     made-refuses, made-kept, made-front     the same of any call that writes
