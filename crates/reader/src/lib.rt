@@ -213,9 +213,10 @@ fn items(s: &[u8], end: usize, from: usize, left: usize, kind: Kind, count: usiz
 }
 
 // A shape at a place, whatever its head says.
-fn shape_at(s: &[u8], end: usize, at: usize, left: usize) -> Walked
+pub fn shape_at(s: &[u8], end: usize, at: usize, left: usize) -> Walked
     requires { ⌜ (end ≤ length (now s)) × (left ≤ maxLevels) ⌝ }
-    ensures { λ r. ⌜ told r ≡ walkShape depths left (now (s .entry)) end at ⌝ }
+    ensures is { λ r. ⌜ told r ≡ walkShape depths left (now (s .entry)) end at ⌝ }
+    ensures inside { λ r. ⌜ WalkedInside left r ⌝ }
 {
     match head_at(s, end, at, left) {
         Head::Stop { number, place } => Walked::Refused { number, place },

@@ -18,19 +18,19 @@ returns-2 : tie.Need-returns-2
 unfolding walkAll
 returns-2 c =
     let b = c .before in let k = b .before .before .before .before in
-    rw (← walk-said (k .before .args .bytes .now) (λ i. omega (arith, k .shared-slice-known .given i)), ← b .before .before .shape-at .ensures, b .number .given .1) (search tests)
+    rw (← walk-said (k .before .args .bytes .now) (λ i. omega (arith, k .shared-slice-known .given i)), ← b .before .before .shape-at .ensures .0, b .number .given .1) (search tests)
 
 returns-3 : tie.Need-returns-3
 unfolding walkAll
 returns-3 c =
     let b = c .before .before in let k = b .before .before .before .before in
-    rw (← walk-said (k .before .args .bytes .now) (λ i. omega (arith, k .shared-slice-known .given i)), ← b .before .before .shape-at .ensures, b .next .given .1) (search tests)
+    rw (← walk-said (k .before .args .bytes .now) (λ i. omega (arith, k .shared-slice-known .given i)), ← b .before .before .shape-at .ensures .0, b .next .given .1) (search tests)
 
 returns-4 : tie.Need-returns-4
 unfolding walkAll
 returns-4 c =
     let b = c .before .before in let k = b .before .before .before .before in
-    rw (← walk-said (k .before .args .bytes .now) (λ i. omega (arith, k .shared-slice-known .given i)), ← b .before .before .shape-at .ensures, b .next .given .1) (search tests)
+    rw (← walk-said (k .before .args .bytes .now) (λ i. omega (arith, k .shared-slice-known .given i)), ← b .before .before .shape-at .ensures .0, b .next .given .1) (search tests)
 
 pub read-spec : {M : Type 1} → statement M
 read-spec =

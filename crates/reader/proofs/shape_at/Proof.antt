@@ -7,10 +7,10 @@ use Rattle.reader.proofs.shape_at.Statement.{statement}
 use Rattle.reader.proofs.shape_at.Tie as tie
 
 returns : tie.Need-returns
-returns c = let b = c .before in sym (rw (b .number .given .1) at (b .before .before .head-at .ensures))
+returns c = let b = c .before in (sym (rw (b .number .given .1) at (b .before .before .head-at .ensures)), search needs)
 
 returns-2 : tie.Need-returns-2
-returns-2 c = let b = c .before in sym ((rw (b .depth .given .1) at (b .before .before .head-at .ensures)) .0)
+returns-2 c = let b = c .before in let h = rw (b .depth .given .1) at (b .before .before .head-at .ensures) in (sym (h .0), h .1)
 
 pub shape-at-spec : {M : Type 1} → statement M
 shape-at-spec =
