@@ -1,0 +1,10 @@
+pub mod Letters
+pub mod Meant
+pub mod Ends
+pub mod Due
+pub mod Heads
+pub mod Sizes
+pub mod Numbers
+pub mod Words
+pub mod Fed
+pub mod Firsts

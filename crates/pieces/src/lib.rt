@@ -1,0 +1,252 @@
+// A reader that is fed with parts and answers at the finish, as the whole reader does for the parts joined.
+pub mod state;
+
+use byte_steps::modes::BYTES;
+use byte_steps::modes::LEVELS;
+use byte_steps::modes::Mode;
+use leaves::limits::MAX_BYTES;
+use leaves::limits::MAX_LEVELS;
+use leaves::refusals::CUT_SHORT;
+use leaves::refusals::INPUT_TOO_LONG;
+use leaves::refusals::SIZE_WRONG;
+use reader::Judgement;
+use state::BARE;
+use state::Entry;
+use state::HEAD;
+use state::State;
+use state::Word;
+use state::entry_of;
+use state::level_of;
+use state::mode_of;
+use state::no_entry;
+use state::word_of;
+use turns::moves::Act;
+use turns::moves::sized;
+use turns::turn;
+ghost use mathlib.Core.Path.{_≡_};
+ghost use Prim.Native.Nat.{_<_, ℕ};
+ghost use Rattle.byte_steps.specs.Automaton.{verdict};
+ghost use Rattle.pieces.specs.Kept.{judgedOut};
+ghost use Rattle.pieces.specs.Led.{Small, closedOf, ledTo};
+ghost use mathlib.Core.List.{List, [], _++_};
+ghost use Rattle.meaning.specs.Within.{Bytes};
+ghost use Rattle.meaning.specs.Reading.{reading};
+ghost use Rattle.reader.specs.Said.{said};
+
+// The state before any byte came.
+pub fn start() -> State
+    ensures { λ r. ⌜ r ≡ ledTo [] ⌝ }
+{
+    State {
+        levels: [no_entry(); MAX_LEVELS],
+        top: Entry {
+            at: 0,
+            stop: BYTES,
+            due: 0,
+            items: BARE,
+        },
+        next: Word {
+            a: 0,
+            b: 0,
+            code: HEAD,
+            more: 0,
+            low: 0,
+            high: 0,
+        },
+        used: 0,
+        count: 0,
+        whole: 1,
+        deepest: 0,
+        closed: 0,
+    }
+}
+
+// The state after a part. It is worked on in place: what the loop needs at each turn is held beside it, and put back where the part ends.
+pub fn part(mut state: State, bytes: &[u8]) -> State
+    ensures still { λ r. ⌜ (0 < state .closed → r ≡ state) ⌝ }
+    ensures led { λ r. ⌜ ((u : List ℕ) → state ≡ ledTo u → r ≡ ledTo (u ++ now (bytes .entry))) ⌝ }
+{
+    let next = state.next;
+    let mut mode = mode_of(next);
+    if 0 < state.closed {
+        return state;
+    }
+    // from a state that no part leads to
+    if LEVELS < state.used {
+        return state;
+    }
+    if LEVELS < state.used + sized(mode) {
+        return state;
+    }
+    let first = state.top;
+    let mut top = level_of(first);
+    let mut n = state.used;
+    let mut count = state.count;
+    let mut whole = state.whole;
+    let mut deepest = state.deepest;
+    let mut i = 0;
+    loop {
+        let t = turn(bytes, i, mode, top, n, count, whole, deepest);
+        let act = t.act;
+        count = t.count;
+        whole = t.whole;
+        deepest = t.deepest;
+        i = t.i;
+        match act {
+            Act::Rest => {
+                let last = t.mode;
+                let level = t.top;
+                state.top = entry_of(level);
+                state.next = word_of(last);
+                state.used = n;
+                state.count = count;
+                state.whole = whole;
+                state.deepest = deepest;
+                return state;
+            }
+            Act::Stay => {
+                mode = t.mode;
+                top = t.top;
+            }
+            Act::Push => {
+                let k = n as usize;
+                state.levels[k] = entry_of(top);
+                n += 1;
+                mode = t.mode;
+                top = t.top;
+            }
+            Act::Pop => {
+                n -= 1;
+                let k = n as usize;
+                let entry = state.levels[k];
+                state.levels[k] = no_entry();
+                top = level_of(entry);
+                mode = t.mode;
+            }
+        }
+    }
+}
+
+// The answer, and the state that repeats it.
+pub struct Finished {
+    pub state: State,
+    pub answer: Judgement,
+}
+
+// What the finish says of an input that is neither too long nor shorter than its root.
+fn verdict(mode: Mode, count: u16, whole: u16, deepest: u16) -> Judgement
+    ensures { λ r. ⌜ r ≡ judgedOut (verdict mode count whole deepest) ⌝ }
+{
+    match mode {
+        Mode::Done => {
+            if whole < count {
+                return Judgement::Refused {
+                    number: SIZE_WRONG,
+                    place: whole as usize,
+                };
+            }
+            Judgement::Accepted {
+                length: count as usize,
+                depth: deepest as usize,
+            }
+        }
+        Mode::Faulty { number, place } => Judgement::Refused {
+            number: number as usize,
+            place: place as usize,
+        },
+        Mode::Head => Judgement::Refused {
+            number: CUT_SHORT,
+            place: 0,
+        },
+        Mode::SizeLow { kind: _, at: _ } => Judgement::Refused {
+            number: CUT_SHORT,
+            place: 0,
+        },
+        Mode::SizeHigh {
+            kind: _,
+            at: _,
+            low: _,
+        } => Judgement::Refused {
+            number: CUT_SHORT,
+            place: 0,
+        },
+        Mode::Opening {
+            kind: _,
+            at: _,
+            stop: _,
+        } => Judgement::Refused {
+            number: CUT_SHORT,
+            place: 0,
+        },
+        Mode::Count => Judgement::Refused {
+            number: CUT_SHORT,
+            place: 0,
+        },
+        Mode::CountMore { at: _, low: _ } => Judgement::Refused {
+            number: CUT_SHORT,
+            place: 0,
+        },
+        Mode::Length => Judgement::Refused {
+            number: CUT_SHORT,
+            place: 0,
+        },
+        Mode::LengthMore { at: _, low: _ } => Judgement::Refused {
+            number: CUT_SHORT,
+            place: 0,
+        },
+        Mode::Letters {
+            from: _,
+            left: _,
+            more: _,
+            low: _,
+            high: _,
+        } => Judgement::Refused {
+            number: CUT_SHORT,
+            place: 0,
+        },
+        Mode::BlankLow { at: _ } => Judgement::Refused {
+            number: CUT_SHORT,
+            place: 0,
+        },
+        Mode::BlankHigh { at: _, low: _ } => Judgement::Refused {
+            number: CUT_SHORT,
+            place: 0,
+        },
+        Mode::Between => Judgement::Refused {
+            number: CUT_SHORT,
+            place: 0,
+        },
+    }
+}
+
+// The answer to the bytes that came, and the state that repeats it.
+pub fn finish(mut state: State) -> Finished
+    ensures closed { λ r. ⌜ r .state ≡ closedOf state ⌝ }
+    ensures led { λ r. ⌜ ((u : List ℕ) → Bytes u → closedOf state ≡ closedOf (ledTo u) → r .answer ≡ said (reading u)) ⌝ }
+    ensures small { λ r. ⌜ Small (r .answer) ⌝ }
+{
+    state.closed = 1;
+    let next = state.next;
+    if BYTES < state.count {
+        return Finished {
+            state,
+            answer: Judgement::Refused {
+                number: INPUT_TOO_LONG,
+                place: MAX_BYTES,
+            },
+        };
+    }
+    if state.count < state.whole {
+        return Finished {
+            state,
+            answer: Judgement::Refused {
+                number: CUT_SHORT,
+                place: 0,
+            },
+        };
+    }
+    Finished {
+        state,
+        answer: verdict(mode_of(next), state.count, state.whole, state.deepest),
+    }
+}

@@ -1,0 +1,374 @@
+// The state of a reader that is fed, as numbers, so that a host can keep it; and back.
+use byte_steps::modes::Items;
+use byte_steps::modes::Level;
+use byte_steps::modes::Mode;
+use leaves::limits::MAX_LEVELS;
+use payloads::first::Kind;
+ghost use mathlib.Core.Path.{_≡_};
+ghost use Rattle.pieces.specs.Kept.{entryOf, itemsNumber, itemsOf, kindIn, kindNumber, levelIn, modeHigh, modeIn, noEntry, wordOf};
+
+// A level as numbers, so that a host can keep it.
+#[repr(C)]
+pub struct Entry {
+    pub at: u16,
+    pub stop: u16,
+    pub due: u16,
+    pub items: u16,
+}
+
+// What the next byte is, as numbers.
+#[repr(C)]
+pub struct Word {
+    pub a: u16,
+    pub b: u16,
+    pub code: u8,
+    pub more: u8,
+    pub low: u8,
+    pub high: u8,
+}
+
+// The state between two parts: an entry for each of the 16 levels (the input's own first), the level in hand, what the next byte is, how many entries
+// are in use, how many bytes came, how many the root has, how deep it is, and whether it was finished.
+#[repr(C)]
+pub struct State {
+    pub levels: [Entry; MAX_LEVELS],
+    pub top: Entry,
+    pub next: Word,
+    pub used: u16,
+    pub count: u16,
+    pub whole: u16,
+    pub deepest: u16,
+    pub closed: u16,
+}
+
+// What items are, as an entry has it.
+pub const PLAIN: u16 = 0;
+
+pub const BARE: u16 = 1;
+
+pub const FIELDS: u16 = 2;
+
+pub const TEXTS: u16 = 3;
+
+// What the next byte is, as a word has it. FAULTY stands for every number that is none of the others.
+pub const HEAD: u8 = 0;
+
+pub const SIZE_LOW: u8 = 1;
+
+pub const SIZE_HIGH: u8 = 2;
+
+pub const COUNT: u8 = 3;
+
+pub const COUNT_MORE: u8 = 4;
+
+pub const LENGTH: u8 = 5;
+
+pub const LENGTH_MORE: u8 = 6;
+
+pub const LETTERS: u8 = 7;
+
+pub const BLANK_LOW: u8 = 8;
+
+pub const BLANK_HIGH: u8 = 9;
+
+pub const DONE: u8 = 10;
+
+pub const FAULTY: u8 = 11;
+
+// An entry that is not in use.
+pub fn no_entry() -> Entry
+    ensures { λ r. ⌜ r ≡ noEntry ⌝ }
+{
+    Entry {
+        at: 0,
+        stop: 0,
+        due: 0,
+        items: 0,
+    }
+}
+
+// What items are, as a number, and back.
+fn items_number(items: Items) -> u16
+    ensures { λ r. ⌜ r ≡ itemsNumber items ⌝ }
+{
+    match items {
+        Items::Plain => PLAIN,
+        Items::Bare => BARE,
+        Items::Fields => FIELDS,
+        Items::Texts => TEXTS,
+    }
+}
+
+fn items_of(number: u16) -> Items
+    ensures { λ r. ⌜ r ≡ itemsOf number ⌝ }
+{
+    if number == PLAIN {
+        return Items::Plain;
+    }
+    if number == BARE {
+        return Items::Bare;
+    }
+    if number == FIELDS {
+        return Items::Fields;
+    }
+    Items::Texts
+}
+
+// A level as numbers, and back.
+pub fn entry_of(top: Level) -> Entry
+    ensures { λ r. ⌜ r ≡ entryOf top ⌝ }
+{
+    let items = top.items;
+    Entry {
+        at: top.at,
+        stop: top.stop,
+        due: top.due,
+        items: items_number(items),
+    }
+}
+
+pub fn level_of(entry: Entry) -> Level
+    ensures { λ r. ⌜ r ≡ levelIn entry ⌝ }
+{
+    Level {
+        at: entry.at,
+        stop: entry.stop,
+        due: entry.due,
+        items: items_of(entry.items),
+    }
+}
+
+// A kind as a number, and back.
+fn kind_number(kind: Kind) -> u16
+    ensures { λ r. ⌜ r ≡ kindNumber kind ⌝ }
+{
+    match kind {
+        Kind::Array => 0,
+        Kind::Map => 1,
+        Kind::Record => 2,
+        Kind::Function => 3,
+        Kind::Symbol => 4,
+        Kind::Variable => 5,
+    }
+}
+
+fn kind_of(number: u16) -> Kind
+    ensures { λ r. ⌜ r ≡ kindIn number ⌝ }
+{
+    if number == 0 {
+        return Kind::Array;
+    }
+    if number == 1 {
+        return Kind::Map;
+    }
+    if number == 2 {
+        return Kind::Record;
+    }
+    if number == 3 {
+        return Kind::Function;
+    }
+    if number == 4 {
+        return Kind::Symbol;
+    }
+    Kind::Variable
+}
+
+// What the next byte is, as numbers, and back.
+pub fn word_of(mode: Mode) -> Word
+    ensures { λ r. ⌜ r ≡ wordOf mode ⌝ }
+{
+    match mode {
+        Mode::Head => Word {
+            code: HEAD,
+            a: 0,
+            b: 0,
+            more: 0,
+            low: 0,
+            high: 0,
+        },
+        Mode::SizeLow { kind, at } => Word {
+            code: SIZE_LOW,
+            a: at,
+            b: kind_number(kind),
+            more: 0,
+            low: 0,
+            high: 0,
+        },
+        Mode::SizeHigh { kind, at, low } => Word {
+            code: SIZE_HIGH,
+            a: at,
+            b: kind_number(kind),
+            more: 0,
+            low,
+            high: 0,
+        },
+        Mode::Opening {
+            kind: _,
+            at: _,
+            stop: _,
+        } => Word {
+            code: DONE,
+            a: 0,
+            b: 0,
+            more: 0,
+            low: 0,
+            high: 0,
+        },
+        Mode::Count => Word {
+            code: COUNT,
+            a: 0,
+            b: 0,
+            more: 0,
+            low: 0,
+            high: 0,
+        },
+        Mode::CountMore { at, low } => Word {
+            code: COUNT_MORE,
+            a: at,
+            b: 0,
+            more: 0,
+            low,
+            high: 0,
+        },
+        Mode::Length => Word {
+            code: LENGTH,
+            a: 0,
+            b: 0,
+            more: 0,
+            low: 0,
+            high: 0,
+        },
+        Mode::LengthMore { at, low } => Word {
+            code: LENGTH_MORE,
+            a: at,
+            b: 0,
+            more: 0,
+            low,
+            high: 0,
+        },
+        Mode::Letters {
+            from,
+            left,
+            more,
+            low,
+            high,
+        } => Word {
+            code: LETTERS,
+            a: from,
+            b: left,
+            more,
+            low,
+            high,
+        },
+        Mode::BlankLow { at } => Word {
+            code: BLANK_LOW,
+            a: at,
+            b: 0,
+            more: 0,
+            low: 0,
+            high: 0,
+        },
+        Mode::BlankHigh { at, low } => Word {
+            code: BLANK_HIGH,
+            a: at,
+            b: 0,
+            more: 0,
+            low,
+            high: 0,
+        },
+        Mode::Between => Word {
+            code: DONE,
+            a: 0,
+            b: 0,
+            more: 0,
+            low: 0,
+            high: 0,
+        },
+        Mode::Done => Word {
+            code: DONE,
+            a: 0,
+            b: 0,
+            more: 0,
+            low: 0,
+            high: 0,
+        },
+        Mode::Faulty { number, place } => Word {
+            code: FAULTY,
+            a: number,
+            b: place,
+            more: 0,
+            low: 0,
+            high: 0,
+        },
+    }
+}
+
+pub fn mode_of(w: Word) -> Mode
+    ensures { λ r. ⌜ r ≡ modeIn w ⌝ }
+{
+    if w.code == HEAD {
+        return Mode::Head;
+    }
+    if w.code == SIZE_LOW {
+        return Mode::SizeLow {
+            kind: kind_of(w.b),
+            at: w.a,
+        };
+    }
+    if w.code == SIZE_HIGH {
+        return Mode::SizeHigh {
+            kind: kind_of(w.b),
+            at: w.a,
+            low: w.low,
+        };
+    }
+    if w.code == COUNT {
+        return Mode::Count;
+    }
+    if w.code == COUNT_MORE {
+        return Mode::CountMore {
+            at: w.a,
+            low: w.low,
+        };
+    }
+    if w.code == LENGTH {
+        return Mode::Length;
+    }
+    mode_high(w)
+}
+
+fn mode_high(w: Word) -> Mode
+    ensures { λ r. ⌜ r ≡ modeHigh w ⌝ }
+{
+    if w.code == LENGTH_MORE {
+        return Mode::LengthMore {
+            at: w.a,
+            low: w.low,
+        };
+    }
+    if w.code == LETTERS {
+        return Mode::Letters {
+            from: w.a,
+            left: w.b,
+            more: w.more,
+            low: w.low,
+            high: w.high,
+        };
+    }
+    if w.code == BLANK_LOW {
+        return Mode::BlankLow { at: w.a };
+    }
+    if w.code == BLANK_HIGH {
+        return Mode::BlankHigh {
+            at: w.a,
+            low: w.low,
+        };
+    }
+    if w.code == DONE {
+        return Mode::Done;
+    }
+    Mode::Faulty {
+        number: w.a,
+        place: w.b,
+    }
+}

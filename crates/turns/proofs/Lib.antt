@@ -1,0 +1,5 @@
+pub mod Taking
+pub mod Inside
+pub mod Moving
+pub mod Whole
+pub mod Leading

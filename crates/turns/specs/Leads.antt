@@ -1,0 +1,158 @@
+-- NOT TO BE BELIEVED. What a turn of the loop over a part's bytes leads to, and what lies whole in them.
+use Prim.Native.Nat.{ℕ, _+_, _*_, _-_, _≤_, _<_, max}
+use mathlib.Core.Path.{_≡_}
+use mathlib.Core.Bool.{Bool, true, false}
+use mathlib.Core.List.{List, [], _∷_}
+use lib.ListN.{length, getD, drop}
+use lib.Dec.{ltb}
+use Rattle.meaning.specs.Rules.{_⇒_∣_}
+use Rattle.meaning.specs.Limits.{maxBytes, maxLevels}
+use Rattle.byte_steps.specs.declared.modes.Items.{Items}
+use Rattle.byte_steps.specs.declared.modes.Items.the-variants.{Plain, Bare, Fields, Texts}
+use Rattle.byte_steps.specs.declared.modes.Level.{Level}
+use Rattle.byte_steps.specs.declared.modes.Mode.{Mode}
+use Rattle.byte_steps.specs.declared.modes.Mode.the-variants.{Head, SizeLow, SizeHigh, Opening, Count, CountMore, Length, LengthMore, Letters, BlankLow, BlankHigh, Between, Done, Faulty}
+use Rattle.turns.specs.declared.moves.Act.{Act}
+use Rattle.turns.specs.declared.moves.Act.the-variants.{Rest, Stay, Push, Pop}
+use Rattle.turns.specs.declared.items.Item.{Item}
+use Rattle.turns.specs.declared.items.Item.the-variants.{Whole, Cut}
+use Rattle.turns.specs.declared.items.Run as Taken
+use Rattle.turns.specs.declared.Turned.{Turned}
+use Rattle.byte_steps.specs.Automaton.{level, afterChild, run, Run, settle, entered, fed}
+use Rattle.turns.specs.Moves.{resting, sized}
+
+-- the items are shapes, in a list without a short form
+abbrev pub bare : Items → Bool
+bare Plain = false
+bare Bare = true
+bare Fields = false
+bare Texts = false
+
+-- the items have texts
+abbrev pub named : Items → Bool
+named Plain = false
+named Bare = false
+named Fields = true
+named Texts = true
+
+-- the mode in which an item is due
+abbrev pub itemMode : Items → Mode
+itemMode Plain = Head
+itemMode Bare = Head
+itemMode Fields = Length
+itemMode Texts = Length
+
+-- nothing is read any more, and bytes are counted only
+abbrev pub idle : Mode → Bool
+idle Head = false
+idle (SizeLow kind from) = false
+idle (SizeHigh kind from low) = false
+idle (Opening kind from stop) = false
+idle Count = false
+idle (CountMore from low) = false
+idle Length = false
+idle (LengthMore from low) = false
+idle (Letters from left m low high) = false
+idle (BlankLow from) = false
+idle (BlankHigh from low) = false
+idle Between = false
+idle Done = true
+idle (Faulty number place) = true
+
+-- so many bytes more, counted up to one over the limit
+abbrev pub countedTo : ℕ → ℕ → ℕ
+countedTo count more = ltb (maxBytes - count) more ⇒ maxBytes + 1 ∣ λ _. count + more
+
+abbrev pub turned : Mode → Level → ℕ → ℕ → ℕ → ℕ → Act → Turned
+turned m l count whole deepest i act = record { mode = m; top = l; count = count; whole = whole; deepest = deepest; i = i; act = act }
+
+-- the levels laid by stay
+abbrev pub stayed : Mode → Level → ℕ → ℕ → ℕ → ℕ → Turned
+stayed m l count whole deepest i = turned m l count whole deepest i Stay
+
+-- and the part is at its end
+abbrev pub rested : Mode → Level → ℕ → ℕ → ℕ → ℕ → Turned
+rested m l count whole deepest i = turned m l count whole deepest i Rest
+
+-- the level laid by last, and those before it
+abbrev pub lastOf : List Level → Level → Level
+lastOf [] l = l
+lastOf (x ∷ xs) l = x
+
+abbrev pub beforeLast : List Level → List Level
+beforeLast [] = []
+beforeLast (x ∷ xs) = xs
+
+-- how the automaton goes on after a turn, by what becomes of the levels
+abbrev pub onward : Turned → List Level → Level → Act → Run
+onward t stack top Rest = entered (t .mode) stack (t .top) (t .count) (t .whole) (t .deepest)
+onward t stack top Stay = entered (t .mode) stack (t .top) (t .count) (t .whole) (t .deepest)
+onward t stack top Push = entered (t .mode) (top ∷ stack) (t .top) (t .count) (t .whole) (t .deepest)
+onward t stack top Pop = entered (t .mode) (beforeLast stack) (lastOf stack top) (t .count) (t .whole) (t .deepest)
+
+-- how many steps without a byte may follow
+abbrev pub weight : Mode → ℕ → ℕ
+weight Head n = 0
+weight (SizeLow kind from) n = 0
+weight (SizeHigh kind from low) n = 0
+weight (Opening kind from stop) n = n + 3
+weight Count n = 0
+weight (CountMore from low) n = 0
+weight Length n = 0
+weight (LengthMore from low) n = 0
+weight (Letters from left m low high) n = 0
+weight (BlankLow from) n = 0
+weight (BlankHigh from low) n = 0
+weight Between n = n + 1
+weight Done n = 0
+weight (Faulty number place) n = 0
+
+-- what is left to be done of a part's bytes from i on
+abbrev pub toDo : List ℕ → ℕ → Mode → ℕ → ℕ
+toDo s i m n = (length s - i) * 64 + weight m n
+
+-- a turn leaves less to be done, and room for a payload that is about to open; there is a place for a level that is laid by, or one to take up
+abbrev pub Lighter : List ℕ → ℕ → Mode → ℕ → Turned → Act → Type 0
+Lighter s i m n t Rest = (resting (t .mode) ≡ true) × (length s ≤ t .i) × (n + sized (t .mode) ≤ maxLevels)
+Lighter s i m n t Stay = (toDo s (t .i) (t .mode) n < toDo s i m n) × (n + sized (t .mode) ≤ maxLevels)
+Lighter s i m n t Push = (n < maxLevels) × (toDo s (t .i) (t .mode) (n + 1) < toDo s i m n) × (n + 1 + sized (t .mode) ≤ maxLevels)
+Lighter s i m n t Pop = (0 < n) × (toDo s (t .i) (t .mode) (n - 1) < toDo s i m n) × (n - 1 + sized (t .mode) ≤ maxLevels)
+
+-- a turn over the bytes s from i on: fed with what is left of them, the automaton comes to the same
+pub record Leads (s : List ℕ) (i : ℕ) (m : Mode) (top : Level) (n count whole deepest : ℕ) (t : Turned) : Type 0 where
+  pub same : (stack : List Level) → length stack ≡ n → fed (entered m stack top count whole deepest) (drop i s) ≡ fed (onward t stack top (t .act)) (drop (t .i) s)
+  pub within : t .i ≤ length s
+  pub lighter : Lighter s i m n t (t .act)
+
+-- the end of a window from i on that lies in the part, in the payload in hand and in the longest input
+pub record WindowEnd (size i stop count end : ℕ) : Type 0 where
+  pub from : i ≤ end
+  pub within : end ≤ size
+  pub inside : i < end → count + (end - i) ≤ stop
+  pub few : count + (end - i) ≤ maxBytes
+
+-- a shape that lies whole in the window that ends at end: fed with its bytes, the automaton is after it
+abbrev pub ShapeFed : List ℕ → ℕ → ℕ → ℕ → ℕ → Item → Type 0
+ShapeFed s end at n deepest Cut = Unit {0}
+ShapeFed s end at n deepest (Whole next deep) =
+    (at < next) × (next ≤ end)
+    × ((l : Level) (ls : List Level) (top : Level) (count whole : ℕ) → length (l ∷ ls) ≡ n → count + (end - at) ≤ top .stop → count + (end - at) ≤ maxBytes
+    → fed (run (l ∷ ls) top Head count whole deepest) (drop at s) ≡ fed (settle (l ∷ ls) (afterChild top (getD s at 0)) (count + (next - at)) whole deep) (drop next s))
+
+-- the same of an item of a list that has no short form
+abbrev pub ItemFed : Items → List ℕ → ℕ → ℕ → ℕ → ℕ → Item → Type 0
+ItemFed items s end at n deepest Cut = Unit {0}
+ItemFed items s end at n deepest (Whole next deep) =
+    (at < next) × (next ≤ end)
+    × ((l : Level) (ls : List Level) (from stop due count whole : ℕ) → length (l ∷ ls) ≡ n → count + (end - at) ≤ stop → count + (end - at) ≤ maxBytes
+    → fed (run (l ∷ ls) (level from stop due items) (itemMode items) count whole deepest) (drop at s)
+    ≡ fed (settle (l ∷ ls) (level from stop due items) (count + (next - at)) whole deep) (drop next s))
+
+-- items taken one after the other from i on, each followed by another
+pub record RunFed (items : Items) (s : List ℕ) (end at n due deepest : ℕ) (r : Taken.Run) : Type 0 where
+  pub from : at ≤ r .i
+  pub inside : r .i ≤ max at end
+  pub fewer : r .due ≤ due
+  pub same : (l : Level) (ls : List Level) (from stop count whole : ℕ) → length (l ∷ ls) ≡ n → count + (end - at) ≤ stop → count + (end - at) ≤ maxBytes
+      → fed (run (l ∷ ls) (level from stop due items) (itemMode items) count whole deepest) (drop at s)
+      ≡ fed (run (l ∷ ls) (level from stop (r .due) items) (itemMode items) (count + (r .i - at)) whole (r .deepest)) (drop (r .i) s)

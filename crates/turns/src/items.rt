@@ -1,0 +1,190 @@
+// What lies whole in a part: its items are taken at once, by the whole reader's own walk. Only what a part's end cuts is read byte by byte.
+use byte_steps::modes::BYTES;
+use byte_steps::modes::Items;
+use byte_steps::modes::LEVELS;
+use byte_steps::modes::Level;
+use byte_steps::modes::larger;
+use payloads::Text;
+use payloads::first::First;
+use reader::Walked;
+ghost use mathlib.Core.Path.{_≡_};
+ghost use Prim.Native.Nat.{_<_, _≤_};
+ghost use Rattle.turns.specs.Leads.{ItemFed, RunFed, ShapeFed, WindowEnd, bare, named};
+ghost use Rattle.meaning.specs.Limits.{maxBytes, maxLevels};
+ghost use lib.ListN.{length};
+ghost use Rattle.byte_steps.specs.declared.modes.Items.the-variants.{Fields, Texts};
+
+// Whether the items are shapes, in a list without a short form.
+pub fn bare(items: Items) -> bool
+    ensures { λ r. ⌜ r ≡ bare items ⌝ }
+{
+    match items {
+        Items::Plain => false,
+        Items::Bare => true,
+        Items::Fields => false,
+        Items::Texts => false,
+    }
+}
+
+// Whether the items have texts.
+pub fn named(items: Items) -> bool
+    ensures { λ r. ⌜ r ≡ named items ⌝ }
+{
+    match items {
+        Items::Plain => false,
+        Items::Bare => false,
+        Items::Fields => true,
+        Items::Texts => true,
+    }
+}
+
+// An item that lies whole in a window: the place after it, and how deep the deepest shape is then. Cut: it does not, or something is wrong in it.
+pub enum Item {
+    Whole { next: usize, deepest: u16 },
+    Cut,
+}
+
+// A shape with a payload.
+fn long_item(s: &[u8], end: usize, at: usize, n: u16, deepest: u16) -> Item
+    requires { ⌜ (end ≤ length (now s)) × (0 < n) × (n ≤ maxLevels) ⌝ }
+    ensures { λ r. ⌜ ShapeFed (now (s .entry)) end at n deepest r ⌝ }
+{
+    match reader::shape_at(s, end, at, (LEVELS - n) as usize) {
+        Walked::Refused {
+            number: _,
+            place: _,
+        } => Item::Cut,
+        Walked::Shape { next, depth } => Item::Whole {
+            next,
+            deepest: larger(deepest, n + depth as u16),
+        },
+    }
+}
+
+// A shape of a list at a level: most have one byte, and are taken without a call.
+pub fn shape_item(s: &[u8], end: usize, at: usize, n: u16, deepest: u16) -> Item
+    requires { ⌜ (end ≤ length (now s)) × (0 < n) × (n ≤ maxLevels) ⌝ }
+    ensures { λ r. ⌜ ShapeFed (now (s .entry)) end at n deepest r ⌝ }
+{
+    if end <= at {
+        return Item::Cut;
+    }
+    match payloads::first::first_of(s[at]) {
+        First::Unassigned => Item::Cut,
+        First::Short { levels } => {
+            let deep = n + levels as u16;
+            if LEVELS < deep {
+                return Item::Cut;
+            }
+            Item::Whole {
+                next: at + 1,
+                deepest: larger(deepest, deep),
+            }
+        }
+        First::Long { kind: _ } => long_item(s, end, at, n, deepest),
+    }
+}
+
+// A field: its name and its shape.
+fn field_item(s: &[u8], end: usize, at: usize, n: u16, deepest: u16) -> Item
+    requires { ⌜ (end ≤ length (now s)) × (0 < n) × (n ≤ maxLevels) ⌝ }
+    ensures { λ r. ⌜ ItemFed Fields (now (s .entry)) end at n deepest r ⌝ }
+{
+    match payloads::text_at(s, end, at) {
+        Text::Bad {
+            number: _,
+            place: _,
+        } => Item::Cut,
+        Text::Whole { start: _, next } => shape_item(s, end, next, n, deepest),
+    }
+}
+
+// A Symbol's text.
+fn text_item(s: &[u8], end: usize, at: usize, n: u16, deepest: u16) -> Item
+    requires { ⌜ (end ≤ length (now s)) × (0 < n) ⌝ }
+    ensures { λ r. ⌜ ItemFed Texts (now (s .entry)) end at n deepest r ⌝ }
+{
+    match payloads::text_at(s, end, at) {
+        Text::Bad {
+            number: _,
+            place: _,
+        } => Item::Cut,
+        Text::Whole { start: _, next } => Item::Whole { next, deepest },
+    }
+}
+
+// An item of a list that has no short form.
+fn item_at(s: &[u8], end: usize, at: usize, items: Items, n: u16, deepest: u16) -> Item
+    requires { ⌜ (end ≤ length (now s)) × (0 < n) × (n ≤ maxLevels) ⌝ }
+    ensures { λ r. ⌜ ItemFed items (now (s .entry)) end at n deepest r ⌝ }
+{
+    match items {
+        Items::Plain => Item::Cut,
+        Items::Bare => shape_item(s, end, at, n, deepest),
+        Items::Fields => field_item(s, end, at, n, deepest),
+        Items::Texts => text_item(s, end, at, n, deepest),
+    }
+}
+
+// Items taken one after the other: where the next stands, how many are due after it, and how deep the deepest shape is.
+pub struct Run {
+    pub i: usize,
+    pub due: u16,
+    pub deepest: u16,
+}
+
+// The items of a list from a place on that lie whole in a window, each with another after it there.
+pub fn items_run(
+    s: &[u8],
+    end: usize,
+    from: usize,
+    items: Items,
+    n: u16,
+    due: u16,
+    deepest: u16,
+) -> Run
+    requires { ⌜ (end ≤ length (now s)) × (0 < n) × (n ≤ maxLevels) ⌝ }
+    ensures { λ r. ⌜ RunFed items (now (s .entry)) end from n due deepest r ⌝ }
+{
+    let mut run = Run {
+        i: from,
+        due,
+        deepest,
+    };
+    while 0 < run.due {
+        match item_at(s, end, run.i, items, n, run.deepest) {
+            Item::Cut => return run,
+            Item::Whole {
+                next,
+                deepest: deeper,
+            } => {
+                if end <= next {
+                    return run;
+                }
+                run.due -= 1;
+                run.i = next;
+                run.deepest = deeper;
+            }
+        }
+    }
+    run
+}
+
+// The smaller of two numbers.
+pub fn least(a: usize, b: usize) -> usize
+    ensures { λ r. ⌜ (r ≤ a) × (r ≤ b) ⌝ }
+{
+    if a < b { a } else { b }
+}
+
+// Where a window of a part's bytes from a place on ends: with the payload in hand, with the part, or with the longest input.
+pub fn window_end(s: &[u8], i: usize, top: Level, count: u16) -> usize
+    requires { ⌜ (i ≤ length (now s)) × (count < maxBytes) ⌝ }
+    ensures { λ r. ⌜ WindowEnd (length (now (s .entry))) i (top .stop) count r ⌝ }
+{
+    if top.stop <= count {
+        return i;
+    }
+    let room = least((top.stop - count) as usize, (BYTES - count) as usize);
+    i + least(s.len() - i, room)
+}
