@@ -1,8 +1,8 @@
 -- "It trusts no caller to have looked first": no public call asks anything. What a call asks, the whole of its `requires`, is nothing (`emp`, a
 -- contract's ⊤ₛ), whatever its lifetimes κs and its arguments a are, in every model w of the logic; and so is what the checker reads of it (`Pre`). The
 -- two calls on records have no `Pre` (Plain.antt).
---     read-asks-nothing .. records-asks-nothing                 the calls
---     board-read-asks-nothing .. board-records-asks-nothing     the exported calls
+--     read-asks-nothing .. pieces-finish-asks-nothing                 the calls
+--     board-read-asks-nothing .. board-pieces-finish-asks-nothing     the exported calls
 -- Assumes nothing.
 use mathlib.Core.Path.{_≡_, refl}
 use base.Logic.{emp}
@@ -25,6 +25,12 @@ use Rattle.writer.proofs.write.Reads as write-reads
 use Rattle.way_back.proofs.to_table as table
 use Rattle.way_back.proofs.to_table.Reads as table-reads
 use Rattle.editor.proofs.write_records as records
+use Rattle.pieces.proofs.start as pieces-start
+use Rattle.pieces.proofs.start.Reads as pieces-start-reads
+use Rattle.pieces.proofs.part as pieces-part
+use Rattle.pieces.proofs.part.Reads as pieces-part-reads
+use Rattle.pieces.proofs.finish as pieces-finish
+use Rattle.pieces.proofs.finish.Reads as pieces-finish-reads
 use Rattle.board.proofs.shiulbart_read as board-read
 use Rattle.board.proofs.shiulbart_read.Reads as board-read-reads
 use Rattle.board.proofs.shiulbart_sheet as board-sheet
@@ -42,6 +48,12 @@ use Rattle.board.proofs.shiulbart_write.Reads as board-write-reads
 use Rattle.board.proofs.shiulbart_table as board-table
 use Rattle.board.proofs.shiulbart_table.Reads as board-table-reads
 use Rattle.board.proofs.shiulbart_write_records as board-records
+use Rattle.board.proofs.shiulbart_pieces_start as board-pieces-start
+use Rattle.board.proofs.shiulbart_pieces_start.Reads as board-pieces-start-reads
+use Rattle.board.proofs.shiulbart_pieces_part as board-pieces-part
+use Rattle.board.proofs.shiulbart_pieces_part.Reads as board-pieces-part-reads
+use Rattle.board.proofs.shiulbart_pieces_finish as board-pieces-finish
+use Rattle.board.proofs.shiulbart_pieces_finish.Reads as board-pieces-finish-reads
 
 module _ (w : World) (κs : Lfts 1) (a : _) where
   pub read-asks-nothing : (read.clauses (w .𝓤) (w .H) (w .𝓖 .A) (w .𝓜 .mem) (w .𝓡 .run) κs a .requires tt ≡ emp (w .𝓤)) × read-reads.Pre κs a
@@ -101,3 +113,24 @@ module _ (w : World) (κs : Lfts 3) (a : _) where
 
   pub board-records-asks-nothing : board-records.clauses (w .𝓤) (w .H) (w .𝓖 .A) (w .𝓜 .mem) (w .𝓡 .run) κs a .requires tt ≡ emp (w .𝓤)
   board-records-asks-nothing = refl
+
+module _ (w : World) (κs : Lfts 0) (a : _) where
+  pub pieces-start-asks-nothing : (pieces-start.clauses (w .𝓤) (w .H) (w .𝓖 .A) (w .𝓜 .mem) (w .𝓡 .run) κs a .requires tt ≡ emp (w .𝓤)) × pieces-start-reads.Pre κs a
+  pieces-start-asks-nothing = (refl, tt)
+
+  pub board-pieces-start-asks-nothing : (board-pieces-start.clauses (w .𝓤) (w .H) (w .𝓖 .A) (w .𝓜 .mem) (w .𝓡 .run) κs a .requires tt ≡ emp (w .𝓤)) × board-pieces-start-reads.Pre κs a
+  board-pieces-start-asks-nothing = (refl, tt)
+
+module _ (w : World) (κs : Lfts 1) (a : _) where
+  pub pieces-part-asks-nothing : (pieces-part.clauses (w .𝓤) (w .H) (w .𝓖 .A) (w .𝓜 .mem) (w .𝓡 .run) κs a .requires tt ≡ emp (w .𝓤)) × pieces-part-reads.Pre κs a
+  pieces-part-asks-nothing = (refl, tt)
+
+  pub board-pieces-part-asks-nothing : (board-pieces-part.clauses (w .𝓤) (w .H) (w .𝓖 .A) (w .𝓜 .mem) (w .𝓡 .run) κs a .requires tt ≡ emp (w .𝓤)) × board-pieces-part-reads.Pre κs a
+  board-pieces-part-asks-nothing = (refl, tt)
+
+module _ (w : World) (κs : Lfts 0) (a : _) where
+  pub pieces-finish-asks-nothing : (pieces-finish.clauses (w .𝓤) (w .H) (w .𝓖 .A) (w .𝓜 .mem) (w .𝓡 .run) κs a .requires tt ≡ emp (w .𝓤)) × pieces-finish-reads.Pre κs a
+  pieces-finish-asks-nothing = (refl, tt)
+
+  pub board-pieces-finish-asks-nothing : (board-pieces-finish.clauses (w .𝓤) (w .H) (w .𝓖 .A) (w .𝓜 .mem) (w .𝓡 .run) κs a .requires tt ≡ emp (w .𝓤)) × board-pieces-finish-reads.Pre κs a
+  board-pieces-finish-asks-nothing = (refl, tt)

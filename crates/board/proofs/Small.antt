@@ -3,7 +3,8 @@
 --     exported-child     of a child
 --     exported-name      of a name
 --     exported-sheet     of a sheet
---     made-fits          that it fits, of fill, join, the writer and the way back
+--     judged-fits        that it fits, of the reader that is fed with parts, whatever its state
+--     made-fits          the same of fill, join, the writer and the way back
 --     records-fit        the same of the writer of records
 --     Given              an answer that fits, and is the one to be given
 -- Assumes nothing.
@@ -31,7 +32,10 @@ use Rattle.meaning.proofs.Bounds.{farthest, Small}
 use Rattle.meaning.proofs.TableAnswers.{write-small}
 use Rattle.meaning.proofs.Parts.{children-few, names-few, child-inside, packed-number, name-inside}
 use Rattle.buffers.specs.Said.{madeSaid}
+use Rattle.reader.specs.declared.Judgement.{Judgement}
+use Rattle.reader.specs.declared.Judgement.the-variants.{Accepted, Refused}
 use Rattle.reader.specs.Said.{said}
+use Rattle.pieces.specs.Led as pieces
 use Rattle.parts.specs.Said.{toldChild, childSaid, nameSaid}
 use Rattle.sheets.specs.Said.{checked}
 use Rattle.editor.specs.declared.Node.{Node}
@@ -52,6 +56,11 @@ given a n p l e = record { fits = (omega arith, omega arith, omega arith, omega 
 -- So does a refusal.
 given-refusal : (number place : ℕ) → number ≤ noSuchPart → place ≤ farthest → Given (refused number place) (refused number place)
 given-refusal number place n p = given (refused number place) n p (omega arith) (omega arith)
+
+-- What the reader that is fed with parts says of any state, small as it is, fits.
+pub judged-fits : (j : Judgement) → pieces.Small j → Fits (readPut j)
+judged-fits (Accepted length depth) h = (omega arith, omega arith, omega (arith, h .0), omega (arith, h .1))
+judged-fits (Refused number place) h = (omega (arith, h .0), omega (arith, h .1), omega arith, omega arith)
 
 -- What a call that writes says, small as it is, fits.
 pub made-fits : (a : Meant.Answer) → Small a → Fits (madePut (madeSaid a))

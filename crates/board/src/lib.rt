@@ -6,12 +6,17 @@ use answers::name_answer;
 use answers::read_answer;
 use answers::sheet_answer;
 use editor::Node;
+use pieces::state::State;
+ghost use Prim.Native.Nat.{ℕ, _<_};
 ghost use mathlib.Core.Path.{_≡_};
+ghost use mathlib.Core.List.{List, [], _++_};
 ghost use lib.ListN.{length};
 ghost use Rattle.meaning.specs.Refusals.{sheetBroken};
+ghost use Rattle.meaning.specs.Within.{Bytes};
 ghost use Rattle.meaning.specs.Reading.{reading};
 ghost use Rattle.meaning.specs.SheetReading.{readSheet};
 ghost use Rattle.meaning.specs.Answers.{fillAnswer, joinAnswer, writeAnswer, tableAnswer, bufferAfter};
+ghost use Rattle.pieces.specs.Led.{closedOf, ledTo};
 ghost use Rattle.board.specs.Answers.{readAnswer, childAnswer, nameAnswer, sheetAnswer, madeAnswer, recordsAnswer};
 
 // Judges an encoding: its length, and its depth as extra, or the refusal.
@@ -88,4 +93,43 @@ pub extern "C" fn shiulbart_table(bytes: &[u8], out: &mut [u8]) -> Answer
     ensures buffer { λ _. ⌜ now (out .exit) ≡ bufferAfter (now (out .entry)) (tableAnswer (now (bytes .entry)) (length (now (out .entry)))) ⌝ }
 {
     made_answer(way_back::to_table(bytes, out))
+}
+
+// A reader that is fed with parts: the state before any bytes. A state is plain numbers, and the host keeps it between two calls.
+#[no_mangle]
+pub extern "C" fn shiulbart_pieces_start() -> State
+    ensures { λ r. ⌜ r ≡ ledTo [] ⌝ }
+{
+    pieces::start()
+}
+
+// The state after one more part, of whatever length, also of none. A part after the finish changes nothing.
+#[no_mangle]
+pub extern "C" fn shiulbart_pieces_part(state: State, part: &[u8]) -> State
+    ensures still { λ r. ⌜ (0 < state .closed → r ≡ state) ⌝ }
+    ensures led { λ r. ⌜ ((u : List ℕ) → state ≡ ledTo u → r ≡ ledTo (u ++ now (part .entry))) ⌝ }
+{
+    pieces::part(state, part)
+}
+
+// What the finish gives: the state, finished, and the answer.
+#[repr(C)]
+pub struct PiecesEnd {
+    pub state: State,
+    pub answer: Answer,
+}
+
+// Judges all parts joined, as `shiulbart_read` does. With the state that it gives, the finish repeats its answer.
+#[no_mangle]
+pub extern "C" fn shiulbart_pieces_finish(state: State) -> PiecesEnd
+    ensures closed { λ r. ⌜ r .state ≡ closedOf state ⌝ }
+    ensures led { λ r. ⌜ ((u : List ℕ) → Bytes u → closedOf state ≡ closedOf (ledTo u) → r .answer ≡ readAnswer (reading u)) ⌝ }
+{
+    let finished = pieces::finish(state);
+    let closed = finished.state;
+    let answer = finished.answer;
+    PiecesEnd {
+        state: closed,
+        answer: read_answer(answer),
+    }
 }

@@ -1,7 +1,9 @@
 -- The public calls, each as a record of one run: what was lent, what came back, and that the call's own contract (`Post`) allows it. The promises are
--- over the runs of the exported calls, which the boards make (`BoardRead` .. `BoardTable`); the runs of the calls below them (`Read` .. `Tabled`) are
--- what the laws behind the promises are over. What is lent are bytes; of what was lent only the buffer that a call writes to can have changed.
+-- over the runs of the exported calls, which the boards make (`BoardRead` .. `BoardPiecesFinish`); the runs of the calls below them (`Read` ..
+-- `Tabled`) are what the laws behind the promises are over. What is lent are bytes; of what was lent only the buffer that a call writes to can have
+-- changed. A state goes in and out by value, so what a call gave is another state, and the one that it was given is as it was.
 --     OnBytes, OnPart, Into, IntoOfTwo, IntoOfRecords     a run, by what a call is lent, whatever its contract
+--     OnNothing, OnState, OnStateAndBytes                 a run of a call on a state
 --     Lent, One, Two, Three                               what a call is lent: bytes, and its parameters one after the other
 -- Assumes nothing.
 use Prim.Native.Nat.{ℕ}
@@ -18,7 +20,9 @@ use Rattle.parts.specs.declared.FoundName.{FoundName}
 use Rattle.sheets.specs.declared.Checked.{Checked}
 use Rattle.editor.specs.declared.Node.{Node}
 use Rattle.editor.specs.Records.{meant}
+use Rattle.pieces.specs.declared.state.State.{State}
 use Rattle.answers.specs.declared.Answer.{Answer}
+use Rattle.board.specs.declared.PiecesEnd.{PiecesEnd}
 use Rattle.reader.proofs.read.Reads as read
 use Rattle.parts.proofs.child.Reads as child
 use Rattle.parts.proofs.name.Reads as name
@@ -35,6 +39,9 @@ use Rattle.board.proofs.shiulbart_fill.Reads as board-fill
 use Rattle.board.proofs.shiulbart_join.Reads as board-join
 use Rattle.board.proofs.shiulbart_write.Reads as board-write
 use Rattle.board.proofs.shiulbart_table.Reads as board-table
+use Rattle.board.proofs.shiulbart_pieces_start.Reads as board-pieces-start
+use Rattle.board.proofs.shiulbart_pieces_part.Reads as board-pieces-part
+use Rattle.board.proofs.shiulbart_pieces_finish.Reads as board-pieces-finish
 use Rattle.board.proofs.Plain.{Parameters, RecordsPost, BoardRecordsPost}
 
 -- bytes that are lent: where they stand, and what they are
@@ -105,6 +112,31 @@ pub record IntoOfRecords {R : Type 0} (Post : Lfts 3 → Parameters → R → Pa
   pub buffer-left : now (s .1 .1 .0) ≡ after
   pub small : NodesFit (map meant nodes) × Bytes rest
 
+-- a call on nothing gave r
+pub record OnNothing {R S : Type 0} (Post : Lfts 0 → Unit {0} → R → S → Type 0) (r : R) : Type 0 where
+  pub κs : Lfts 0
+  pub a : Unit {0}
+  pub s : S
+  pub allowed : Post κs a r s
+
+-- a call on a state gave r
+pub record OnState {R S : Type 0} (Post : Lfts 0 → One State → R → S → Type 0) (state : State) (r : R) : Type 0 where
+  pub κs : Lfts 0
+  pub a : One State
+  pub s : S
+  pub allowed : Post κs a r s
+  pub given : a .0 ≡ state
+
+-- a call on a state and lent bytes gave r
+pub record OnStateAndBytes {R S : Type 0} (Post : Lfts 1 → Two State Lent → R → S → Type 0) (state : State) (bytes : List ℕ) (r : R) : Type 0 where
+  pub κs : Lfts 1
+  pub a : Two State Lent
+  pub s : S
+  pub allowed : Post κs a r s
+  pub given : a .0 ≡ state
+  pub lent : now (a .1 .0) ≡ bytes
+  pub small : Bytes bytes
+
 -- `read` of bytes said r
 abbrev pub Read : (bytes : List ℕ) → Judgement → Type 0
 Read = OnBytes read.Post
@@ -168,3 +200,15 @@ BoardRecords = IntoOfRecords BoardRecordsPost
 
 abbrev pub BoardTable : (bytes before : List ℕ) → Answer → (after : List ℕ) → Type 0
 BoardTable = Into board-table.Post
+
+-- `shiulbart_pieces_start` gave a state
+abbrev pub BoardPiecesStart : State → Type 0
+BoardPiecesStart = OnNothing board-pieces-start.Post
+
+-- `shiulbart_pieces_part` of a state and a part gave a state
+abbrev pub BoardPiecesPart : (state : State) (part : List ℕ) → State → Type 0
+BoardPiecesPart = OnStateAndBytes board-pieces-part.Post
+
+-- `shiulbart_pieces_finish` of a state gave a state and four numbers
+abbrev pub BoardPiecesFinish : (state : State) → PiecesEnd → Type 0
+BoardPiecesFinish = OnState board-pieces-finish.Post

@@ -53,10 +53,10 @@ use Rattle.promises.proofs.Records.{records-refuses, records-numbers, r
 use Rattle.promises.proofs.Below.{Below, alike, read-below, child-below, name-below, sheet-below, fill-below, join-below, write-below, records-below, table-below, fill-some, join-some, write-some, records-some, table-some}
 
 -- a slice lent at some place, for some time
-abbrev lentSlice : {A : Type 0} → List A → RefT (List A)
+abbrev pub lentSlice : {A : Type 0} → List A → RefT (List A)
 lentSlice w = record { ptr = (0, 0); name = 0; now = w }
 
-abbrev some1 : Lfts 1
+abbrev pub some1 : Lfts 1
 some1 = ([], tt)
 
 abbrev some2 : Lfts 2

@@ -12,5 +12,6 @@ pub mod Below
 pub mod Demand1
 pub mod Demand2
 pub mod Demand3
+pub mod Pieces
 pub mod Card
 pub mod Useless

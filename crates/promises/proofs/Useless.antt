@@ -2,10 +2,11 @@
 -- (Calls.antt), so each law says, by one example, that no contract allows what the useless program does. That there are runs at all: Demand1.antt.
 --     refusing-read, refusing-child, refusing-name, refusing-sheet,
 --     refusing-fill, refusing-join, refusing-write, refusing-records,
---     refusing-table     it refuses everything
+--     refusing-table, refusing-pieces     it refuses everything
 --     fixed-read, fixed-child, fixed-name, fixed-sheet,
 --     fixed-fill, fixed-join, fixed-write, fixed-records,
---     fixed-table        it gives one fixed shape or sheet, or one fixed answer
+--     fixed-table, fixed-pieces     it gives one fixed shape or sheet, or one fixed answer
+--     fed-start, idle-pieces, finished-start     a reader that is fed with parts starts as if some had come, gives its state back, or starts as if finished
 --     wrapped-records    it takes 65,537 records for one
 --     copying-fill       a fill that copies its template
 --     copying-second     it fills everything in the first stage and copies in the second
@@ -22,7 +23,7 @@ use native.Mathlib.Omega.{arith}
 use lib.Dec.{ltb}
 use lib.ListN.{length, getD, take}
 use borrow.Author.Tests.{ltb-true, ltb-false}
-use Rattle.meaning.specs.Refusals.{sectionBroken, bufferShort, sheetBroken, noSuchPart}
+use Rattle.meaning.specs.Refusals.{cutShort, sectionBroken, bufferShort, sheetBroken, noSuchPart}
 use Rattle.meaning.specs.Numbers.{leb128}
 use Rattle.meaning.specs.Utf8.{charSize, charsSize, wellFormed}
 use Rattle.meaning.specs.Shape.{depth, count}
@@ -46,13 +47,17 @@ use Rattle.parts.specs.declared.FoundName.the-variants as name
 use Rattle.parts.specs.Said.{childSaid, nameSaid}
 use Rattle.sheets.specs.declared.Checked.the-variants.{Sound}
 use Rattle.sheets.specs.Said.{checked}
+use Rattle.pieces.specs.declared.state.State.{State}
 use Rattle.answers.specs.declared.Answer.{Answer}
 use Rattle.answers.specs.Answers.{answered, refused}
+use Rattle.board.specs.declared.PiecesEnd.{PiecesEnd}
 use Rattle.promises.specs.Order.{many-records}
+use Rattle.promises.specs.Pieces.{none, one}
 use Rattle.promises.specs.Told.{emptySheet, Answered, wrote, Makes}
-use Rattle.promises.proofs.Calls.{BoardRead, BoardChild, BoardName, BoardSheet, BoardFill, BoardJoin, BoardWrite, BoardRecords, BoardTable}
+use Rattle.promises.proofs.Calls.{BoardRead, BoardChild, BoardName, BoardSheet, BoardFill, BoardJoin, BoardWrite, BoardRecords, BoardTable, BoardPiecesStart, BoardPiecesPart, BoardPiecesFinish}
 use Rattle.promises.proofs.Below.{numbered, sized, placed, more, read-said, child-said, name-said, sheet-said, fill-makes, join-makes, write-makes, records-makes, table-makes}
 use Rattle.promises.proofs.Demand1.{board-records-tells}
+use Rattle.promises.proofs.Pieces.{After, board-pieces-read, board-pieces-closed, board-pieces-part-runs, board-pieces-finish-runs}
 
 -- The examples' bytes: Int and Float; the Record of M4, a Int, b Array of Bool
 abbrev pub anInt : List ℕ
@@ -101,6 +106,7 @@ Always answer w = (room : ℕ) → answer room ≡ inRoom room w
 
 -- what the meaning says of the examples
 record Examples : Type 0 where
+  none-said : said (reading []) ≡ read.Refused cutShort 0
   int-said : said (reading anInt) ≡ read.Accepted 1 1
   record-said : said (reading aRecord) ≡ read.Accepted 10 3
   first-child-said : childSaid (reading aRecord) 0 ≡ child.Part 6 1
@@ -126,6 +132,7 @@ record Examples : Type 0 where
 computed : Examples
 unfolding leb128 charSize charsSize wellFormed depth count code primOf classOf asPrim arrayBytes mapBytes blankBytes encode next readCount readText hasShort finish readFields readPayload readLong readClass readShape atEnd reading fieldShapes children fieldNames names fieldItems items nameBytes shapeBytes listBytes listStart childOf find put over each plug orBlank entriesBytes encodings sheetBytes sum readEntries orEntry readEncodings readSecond readSheet nodesBytes linksBytes namesBytes tableBytes nodeShape shapeIn namesFrom joined withNode grow sectionAt nodesIn namesIn goodNode checkNodes checkNames ended readTable onto made allMade madeSheet fillAnswer joinAnswer writeAnswer tableAnswer recordsAnswer
 computed = record {
+  none-said = refl;
   int-said = refl;
   record-said = refl;
   first-child-said = refl;
@@ -222,6 +229,31 @@ module _ {r : Answer} where
   -- nor `shiulbart_sheet` of a sheet of one entry and of the empty sheet.
   pub fixed-sheet : BoardSheet zeroAsInt r → BoardSheet emptySheet r → ⊥
   fixed-sheet c c′ = let e = more (sym (sheet-said c (computed .sheet-said)) ∙ sheet-said c′ (computed .empty-said)) in omega arith
+
+module _ {s : State} where
+  -- A reader that is fed with parts may not refuse Int at the finish,
+  pub refusing-pieces : {e : PiecesEnd} → After (anInt ∷ []) s → BoardPiecesFinish s e → 0 < e .answer .number → ⊥
+  refusing-pieces l c = refusing-read (board-pieces-read l c)
+
+  -- nor say the same of Int and of a Record,
+  pub fixed-pieces : {t : State} {e e′ : PiecesEnd} → After (anInt ∷ []) s → BoardPiecesFinish s e → After (aRecord ∷ []) t → BoardPiecesFinish t e′ → e .answer ≡ e′ .answer → ⊥
+  fixed-pieces l c k d h = fixed-read (rw h at (board-pieces-read l c)) (board-pieces-read k d)
+
+  -- nor start as if Int had come already,
+  pub fed-start : BoardPiecesStart s → After (anInt ∷ []) s → ⊥
+  fed-start c l =
+      let f = board-pieces-finish-runs s .1 in
+      let q = numbered (read-said (board-pieces-read l f) (computed .int-said)) in
+      let z = numbered (read-said (board-pieces-read (record { first = s; begun = c; fed = none }) f) (computed .none-said)) in
+      omega arith
+
+  -- nor give back the state that it was given with a part,
+  pub idle-pieces : BoardPiecesStart s → BoardPiecesPart s anInt s → ⊥
+  idle-pieces c d = fed-start c (record { first = s; begun = c; fed = one d none })
+
+  -- nor start as if it had been finished.
+  pub finished-start : BoardPiecesStart s → 0 < s .closed → ⊥
+  finished-start c h = let d = board-pieces-part-runs s anInt (omega arith, tt) .1 in idle-pieces c (rw (board-pieces-closed d h) at d)
 
 -- Equal bytes have the same byte i.
 byte : {v w x y : List ℕ} (i : ℕ) → v ≡ w → x ≡ y → v ≡ x → getD w i 0 ≡ getD y i 0

@@ -1,3 +1,4 @@
 pub mod Order
 pub mod Told
 pub mod Card
+pub mod Pieces
