@@ -10,12 +10,13 @@
  * - It answers four numbers. If `number` is 0 it is an answer, and `place` is 0; only in
  *   shiulbart_child and shiulbart_name is it a part of the answer. Otherwise it is a refusal:
  *   `number` says what is wrong (enum shiulbart_refusal), `place` says where, and `length` and
- *   `extra` are 0. A field that a call does not use is 0.
+ *   `extra` are 0. A field that a call does not use is 0. Of the reader in parts only the finish
+ *   answers them: the start and a part give a state.
  * - Bytes, nodes, names and entries are counted from 0.
  * - Inputs (pointers to const) are only read. A call that is lent a buffer for its answer writes
  *   the first `length` bytes of it and no other; a refusal writes nothing.
  * - It keeps no pointer and no state, takes no memory but the stack, and may be called from several
- *   threads at once.
+ *   threads at once. The state of the reader in parts goes in and out by value.
  *
  * What the host owes every call
  *
@@ -208,6 +209,98 @@ shiulbart_answer shiulbart_write_records(const shiulbart_node *nodes, size_t nod
  * by shiulbart_read, and then with 12 if `out_length` is under the length needed (that length).
  */
 shiulbart_answer shiulbart_table(const uint8_t *bytes, size_t length, uint8_t *out, size_t out_length);
+
+/*
+ * The reader in parts judges an encoding that comes part by part, as over a line, and need not be kept:
+ *
+ *     shiulbart_pieces state = shiulbart_pieces_start();
+ *     while ((length = receive(part, sizeof part)) > 0)
+ *         state = shiulbart_pieces_part(state, part, length);
+ *     answer = shiulbart_pieces_finish(state).answer;
+ *
+ * A part may have any length, also none, and may end anywhere: in a size, a count or a character too.
+ */
+
+/* The sizes of the reader in parts. */
+enum shiulbart_pieces_sizes {
+    /* the levels that a state has an entry for, as many as a shape may have */
+    SHIULBART_PIECES_LEVELS = 16,
+    /* where the count of bytes stops, one over the longest encoding */
+    SHIULBART_PIECES_COUNT_STOPS = 2049,
+    /* the most bytes that a state takes */
+    SHIULBART_PIECES_MOST = 512
+};
+
+/*
+ * An open payload: the place of its shape, where it ends, how many items are due after the one that is
+ * being read, and what they are.
+ */
+typedef struct shiulbart_pieces_entry {
+    uint16_t at;
+    uint16_t stop;
+    uint16_t due;
+    uint16_t items;
+} shiulbart_pieces_entry;
+
+/* What the next byte is. */
+typedef struct shiulbart_pieces_next {
+    uint16_t a;
+    uint16_t b;
+    uint8_t code;
+    uint8_t more;
+    uint8_t low;
+    uint8_t high;
+} shiulbart_pieces_next;
+
+/*
+ * How far the reader in parts is. A host may copy it, keep it, and go on from it more than once. It may
+ * read `count` and `used`; the rest is the reader's own.
+ *
+ * A host hands in only states that shiulbart_pieces_start, shiulbart_pieces_part and
+ * shiulbart_pieces_finish gave it. From any other a call still ends, but what it gives is not promised.
+ */
+typedef struct shiulbart_pieces {
+    /* the payloads round `top`, from the outside in; the first is the input itself */
+    shiulbart_pieces_entry levels[SHIULBART_PIECES_LEVELS];
+    /* the payload that is being read; the input itself if none is open */
+    shiulbart_pieces_entry top;
+    shiulbart_pieces_next next;
+    /* how many of `levels` are in use: so many levels are open, none at the start */
+    uint16_t used;
+    /* how many bytes came; it stops at 2,049, however many more there are */
+    uint16_t count;
+    /* how many bytes the root has, as far as that is known */
+    uint16_t whole;
+    /* how deep the root is so far */
+    uint16_t deepest;
+    /* 1 after the finish, else 0 */
+    uint16_t closed;
+} shiulbart_pieces;
+
+/* The promised size of a state and its true one: nothing stands between its numbers. */
+typedef char shiulbart_pieces_are_small[sizeof(shiulbart_pieces) <= SHIULBART_PIECES_MOST ? 1 : -1];
+typedef char shiulbart_pieces_are_dense[sizeof(shiulbart_pieces) == 154 ? 1 : -1];
+
+/* What the finish gives: the closed state, and the four numbers of shiulbart_read. */
+typedef struct shiulbart_pieces_end {
+    shiulbart_pieces state;
+    shiulbart_answer answer;
+} shiulbart_pieces_end;
+
+/* The state of a reader that was given nothing yet. */
+shiulbart_pieces shiulbart_pieces_start(void);
+
+/*
+ * The state after one more part. An empty part changes no byte of it, and after the finish no part does.
+ * Nothing is answered here: a fault that is met is told by the finish alone.
+ */
+shiulbart_pieces shiulbart_pieces_part(shiulbart_pieces state, const uint8_t *part, size_t length);
+
+/*
+ * The answer of shiulbart_read for all parts joined, the same four numbers, and the state closed. With
+ * that state the finish repeats both. No parts, or only empty ones, are refused with 1 at 0.
+ */
+shiulbart_pieces_end shiulbart_pieces_finish(shiulbart_pieces state);
 
 #ifdef __cplusplus
 }

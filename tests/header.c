@@ -1,7 +1,7 @@
 /* Calls the archive from C through include/shiulbart.h: M1 to M14 of the bench card, children and
-   names, sheets, M4's table both ways and with its nodes as records, and every byte of the buffers that
-   fill, join, write, write_records and table are lent. tests/host.sh compiles, links and runs it. Its
-   last line is 'N passed, M failed'. */
+   names, sheets, M4's table both ways and with its nodes as records, every byte of the buffers that
+   fill, join, write, write_records and table are lent, and the reader in parts with every byte of its
+   state. tests/host.sh compiles, links and runs it. Its last line is 'N passed, M failed'. */
 #include "shiulbart.h"
 
 #include <stdio.h>
@@ -15,6 +15,21 @@ typedef char six_bytes[sizeof(shiulbart_node) == 6 ? 1 : -1];
 typedef char kind_first[offsetof(shiulbart_node, kind) == 0 ? 1 : -1];
 typedef char then_a[offsetof(shiulbart_node, a) == 2 ? 1 : -1];
 typedef char then_b[offsetof(shiulbart_node, b) == 4 ? 1 : -1];
+
+/* and of a state: 16 entries and one of eight bytes, what is next in as many, and five numbers of two */
+typedef char entry_of_eight[sizeof(shiulbart_pieces_entry) == 8 ? 1 : -1];
+typedef char next_of_eight[sizeof(shiulbart_pieces_next) == 8 ? 1 : -1];
+typedef char bytes_of_next[offsetof(shiulbart_pieces_next, code) == 4 ? 1 : -1];
+typedef char levels_first[offsetof(shiulbart_pieces, levels) == 0 ? 1 : -1];
+typedef char then_top[offsetof(shiulbart_pieces, top) == 128 ? 1 : -1];
+typedef char then_next[offsetof(shiulbart_pieces, next) == 136 ? 1 : -1];
+typedef char then_used[offsetof(shiulbart_pieces, used) == 144 ? 1 : -1];
+typedef char then_count[offsetof(shiulbart_pieces, count) == 146 ? 1 : -1];
+typedef char then_whole[offsetof(shiulbart_pieces, whole) == 148 ? 1 : -1];
+typedef char then_deepest[offsetof(shiulbart_pieces, deepest) == 150 ? 1 : -1];
+typedef char then_closed[offsetof(shiulbart_pieces, closed) == 152 ? 1 : -1];
+typedef char answer_on_four[offsetof(shiulbart_pieces_end, answer) == 156 ? 1 : -1];
+typedef char end_of_172[sizeof(shiulbart_pieces_end) == 172 ? 1 : -1];
 
 static unsigned passed, failed;
 
@@ -127,6 +142,77 @@ static void records(const char *name, const shiulbart_node *nodes, size_t count,
     look(name, &buffer);
 }
 
+/* The state after the bytes, in parts of so many. */
+static shiulbart_pieces fed(const uint8_t *bytes, size_t length, size_t size)
+{
+    shiulbart_pieces state = shiulbart_pieces_start();
+    for (; length > size; bytes += size, length -= size)
+        state = shiulbart_pieces_part(state, bytes, size);
+    return shiulbart_pieces_part(state, bytes, length);
+}
+
+static void same(const char *name, shiulbart_pieces came, shiulbart_pieces state)
+{
+    if (memcmp(&came, &state, sizeof state) == 0) {
+        passed++;
+    } else {
+        failed++;
+        printf("FAILED %s: the state is not as it should be\n", name);
+    }
+}
+
+/* Looks at what a host may read of a state. */
+static void stands(const char *name, shiulbart_pieces state, unsigned count, unsigned used)
+{
+    if (state.count == count && state.used == used) {
+        passed++;
+        return;
+    }
+    failed++;
+    printf("FAILED %s: expected %u bytes and %u levels, came %u and %u\n", name, count, used,
+        (unsigned)state.count, (unsigned)state.used);
+}
+
+/* Finishes: the answer is this one, a part after it changes no byte, and the finish repeats itself. */
+static void finished(const char *name, shiulbart_pieces state, shiulbart_answer answer)
+{
+    static const uint8_t part[] = {0x20, 0xA0};
+    shiulbart_pieces_end end = shiulbart_pieces_finish(state), again;
+    shiulbart_pieces after = shiulbart_pieces_part(end.state, part, sizeof part);
+    expect(name, end.answer, answer);
+    same(name, after, end.state);
+    again = shiulbart_pieces_finish(after);
+    expect(name, again.answer, answer);
+    same(name, again.state, end.state);
+}
+
+/* Reads in parts of each length, and in two parts, one of which may be empty; an empty part between
+   them, with and without a pointer, changes no byte of the state. */
+static void pieces(const char *name, const uint8_t *bytes, size_t length, shiulbart_answer answer)
+{
+    size_t i;
+    for (i = 1; i <= length; i++)
+        finished(name, fed(bytes, length, i), answer);
+    for (i = 0; i <= length; i++) {
+        shiulbart_pieces state = shiulbart_pieces_part(shiulbart_pieces_start(), bytes, i);
+        same(name, shiulbart_pieces_part(state, bytes, 0), state);
+        same(name, shiulbart_pieces_part(state, NULL, 0), state);
+        finished(name, shiulbart_pieces_part(state, bytes + i, length - i), answer);
+    }
+}
+
+/* So many Arrays round an Array of Int, which is packed. */
+static void wrap(uint8_t *bytes, size_t count)
+{
+    size_t i;
+    for (i = 0; i < count; i++) {
+        bytes[3 * i] = 0x40;
+        bytes[3 * i + 1] = (uint8_t)(3 * (count - i) - 2);
+        bytes[3 * i + 2] = 0x00;
+    }
+    bytes[3 * count] = 0x60;
+}
+
 int main(void)
 {
     static const uint8_t m1[] = {0x20};
@@ -167,7 +253,11 @@ int main(void)
     static const shiulbart_node m4_nodes[] = {{0, 0, 0}, {2, 0, 0}, {5, 0, 1}, {7, 1, 2}};
     static const shiulbart_node broken_nodes[] = {{0, 0, 0}, {11, 0, 0}};
     static const shiulbart_node ints[65537] = {{0, 0, 0}};
+    /* before the letters of a Symbol of one text of 2,042 */
+    static const uint8_t longest_head[] = {0x44, 0xFD, 0x07, 0x01, 0xFA, 0x0F};
     shiulbart_node set[4];
+    uint8_t arrays[46], longest[2048];
+    shiulbart_pieces state, other;
     size_t i;
     const size_t m4_rest_length = sizeof m4_table - 26;
     const uint32_t section = SHIULBART_SECTION_BROKEN;
@@ -325,6 +415,55 @@ int main(void)
         refusal(SHIULBART_BUFFER_SHORT, 10));
     expect("no nodes written, null pointers", shiulbart_write_records(NULL, 0, NULL, 0, NULL, 0),
         refusal(section, 0));
+
+    pieces("M1 in parts", m1, sizeof m1, answered(0, 1, 1));
+    pieces("M2 in parts", m2, sizeof m2, answered(0, 1, 2));
+    pieces("M3 in parts", m3, sizeof m3, refusal(SHIULBART_LONG_FORM, 0));
+    pieces("M4 in parts", m4, sizeof m4, answered(0, 10, 3));
+    pieces("M5 in parts", m5, sizeof m5, answered(0, 5, 1));
+    pieces("M6 in parts", m6, sizeof m6, refusal(SHIULBART_LONG_FORM, 0));
+    pieces("M7 in parts", m1, 0, refusal(SHIULBART_CUT_SHORT, 0));
+    pieces("M8 in parts", m8, sizeof m8, refusal(SHIULBART_SIZE_WRONG, 1));
+    pieces("M9 in parts", m9, sizeof m9, answered(0, 5, 2));
+    pieces("M10 in parts", m10, sizeof m10, refusal(SHIULBART_LEB128_WRONG, 3));
+    pieces("M11 in parts", m11, sizeof m11, refusal(SHIULBART_NOT_ASSIGNED, 0));
+    pieces("a Symbol in parts", symbol, sizeof symbol, answered(0, 9, 1));
+    pieces("M4 in parts, cut", m4, sizeof m4 - 1, refusal(SHIULBART_CUT_SHORT, 0));
+    finished("no part at all", shiulbart_pieces_start(), refusal(SHIULBART_CUT_SHORT, 0));
+
+    wrap(arrays, 14);
+    pieces("fifteen Arrays in parts", arrays, 43, answered(0, 43, 16));
+    wrap(arrays, 15);
+    pieces("sixteen Arrays in parts", arrays, 46, refusal(SHIULBART_TOO_DEEP, 45));
+
+    memset(longest, 'a', sizeof longest);
+    memcpy(longest, longest_head, sizeof longest_head);
+    for (i = 1; i <= sizeof longest; i *= 2) {
+        state = fed(longest, sizeof longest, i);
+        stands("2,048 bytes in parts", state, 2048, 0);
+        finished("2,048 bytes in parts", state, answered(0, 2048, 1));
+        state = shiulbart_pieces_part(state, m1, sizeof m1);
+        stands("2,049 bytes in parts", state, SHIULBART_PIECES_COUNT_STOPS, 0);
+        finished("2,049 bytes in parts", state, refusal(SHIULBART_INPUT_TOO_LONG, 2048));
+    }
+    for (i = 0; i < 40; i++) {
+        state = shiulbart_pieces_part(state, too_long, sizeof too_long);
+        stands("up to 84,009 bytes in parts", state, SHIULBART_PIECES_COUNT_STOPS, 0);
+    }
+    finished("84,009 bytes in parts", state, refusal(SHIULBART_INPUT_TOO_LONG, 2048));
+
+    /* what a host may read of a state, and a state from which it goes on twice */
+    stands("no bytes yet", shiulbart_pieces_start(), 0, 0);
+    stands("M4, the size begun", fed(m4, 2, 1), 2, 0);
+    stands("M4, its payload open", fed(m4, 3, 2), 3, 1);
+    stands("M4, all of it", fed(m4, sizeof m4, 3), 10, 0);
+    stands("sixteen Arrays but the last byte", fed(arrays, 45, 4), 45, 15);
+    state = fed(m4, 6, 6);
+    other = shiulbart_pieces_part(state, m11, sizeof m11);
+    state = shiulbart_pieces_part(state, m4 + 6, 4);
+    finished("M4 from a copy", state, answered(0, 10, 3));
+    finished("M4's start, and then a byte not assigned", shiulbart_pieces_part(other, m4 + 7, 3),
+        refusal(SHIULBART_NOT_ASSIGNED, 6));
 
     printf("%u passed, %u failed\n", passed, failed);
     return failed > 0;

@@ -31,6 +31,15 @@
 //! # }
 //! ```
 //!
+//! [`Pieces`] judges an encoding that comes in parts, as over a serial line, and answers at the finish:
+//!
+//! ```
+//! let mut pieces = shiulbart::Pieces::new();
+//! pieces.feed(&[0x42, 7, 0, 2, 1]);
+//! pieces.feed(&[b'a', 0x20, 1, b'b', 0x62]);
+//! assert_eq!(pieces.finish(), shiulbart::read(&[0x42, 7, 0, 2, 1, b'a', 0x20, 1, b'b', 0x62]));
+//! ```
+//!
 //! A *sheet* says which shapes are to be put for the blanks of another one: [`sheet`](sheet()) checks
 //! it, [`fill`](fill()) puts them, and [`join`](join()) makes one sheet of two:
 //!
@@ -71,7 +80,7 @@
 //! is `unsafe`. A refusal leaves that buffer as it was; an answer of n bytes writes the first n and no
 //! other. Nothing is allocated but the answers of [`fill_to_vec`], [`join_to_vec`], [`write_to_vec`],
 //! [`write_records_to_vec`] and [`table_to_vec`], and what a [`Table`] holds. The calls have no state: any
-//! number of threads may make them at once.
+//! number of threads may make them at once. What has been read in parts stands in its own [`Pieces`].
 //!
 //! # Linking
 //!
@@ -86,6 +95,7 @@
 mod fill;
 mod nodes;
 mod parts;
+mod pieces;
 mod refusal;
 mod sheet;
 #[allow(unsafe_code)]
@@ -95,11 +105,12 @@ mod table;
 pub use fill::{fill, fill_to_vec, join, join_to_vec};
 pub use nodes::{Fields, Link, Node, NodeId, NodeRecord, Parameters, Table, TableError, Texts};
 pub use parts::{child, children, name, names, Child, Children, Name, Names, Primitive};
+pub use pieces::Pieces;
 pub use refusal::{Refusal, RefusalKind};
 pub use sheet::{sheet, SheetSize};
 pub use table::{table, table_to_vec, write, write_records, write_records_to_vec, write_to_vec};
 
-/// The length and depth of an accepted encoding, as [`read`] answers them.
+/// The length and depth of an accepted encoding, as [`read`] and [`Pieces::finish`] answer them.
 #[derive(Clone, Copy, Debug, PartialEq, Eq, PartialOrd, Ord, Hash)]
 pub struct Accepted {
     /// The bytes of the encoding, 1 to 2,048: all that were given.
@@ -147,7 +158,12 @@ pub struct Accepted {
 /// [`InputTooLong`]: RefusalKind::InputTooLong
 #[inline]
 pub fn read(bytes: &[u8]) -> Result<Accepted, Refusal> {
-    let answer = sys::read(bytes);
+    judged(sys::read(bytes))
+}
+
+/// What a reader says of all bytes.
+#[inline]
+fn judged(answer: sys::Answer) -> Result<Accepted, Refusal> {
     if answer.number != 0 {
         return Err(Refusal::told(answer));
     }

@@ -51,6 +51,9 @@ extern "C" {
         out_length: usize,
     ) -> Answer;
     fn shiulbart_table(bytes: *const u8, length: usize, out: *mut u8, out_length: usize) -> Answer;
+    fn shiulbart_pieces_start() -> PiecesState;
+    fn shiulbart_pieces_part(state: PiecesState, part: *const u8, length: usize) -> PiecesState;
+    fn shiulbart_pieces_finish(state: PiecesState) -> PiecesEnd;
 }
 
 #[inline]
@@ -139,4 +142,88 @@ pub(crate) fn write_records(nodes: &[NodeRecord], rest: &[u8], out: &mut [u8]) -
 pub(crate) fn table(bytes: &[u8], out: &mut [u8]) -> Answer {
     // SAFETY: as in `fill`.
     unsafe { shiulbart_table(bytes.as_ptr(), bytes.len(), out.as_mut_ptr(), out.len()) }
+}
+
+/// An open payload of the reader in parts: `shiulbart_pieces_entry` of the header.
+#[repr(C)]
+#[derive(Clone, Copy, Debug, PartialEq, Eq)]
+struct PiecesEntry {
+    at: u16,
+    stop: u16,
+    due: u16,
+    items: u16,
+}
+
+/// What the next byte is to the reader in parts: `shiulbart_pieces_next` of the header.
+#[repr(C)]
+#[derive(Clone, Copy, Debug, PartialEq, Eq)]
+struct PiecesNext {
+    a: u16,
+    b: u16,
+    code: u8,
+    more: u8,
+    low: u8,
+    high: u8,
+}
+
+/// How far the reader in parts is: `shiulbart_pieces` of the header.
+///
+/// Its fields are private, so that there is no other state than those that the calls gave: only such
+/// are meant.
+#[repr(C)]
+#[derive(Clone, Copy, Debug, PartialEq, Eq)]
+pub(crate) struct PiecesState {
+    levels: [PiecesEntry; 16],
+    top: PiecesEntry,
+    next: PiecesNext,
+    used: u16,
+    count: u16,
+    whole: u16,
+    deepest: u16,
+    closed: u16,
+}
+
+/// At most 512 bytes are promised. With `repr(C)` the fields are where C has them.
+const _: () = assert!(size_of::<PiecesState>() <= 512);
+const _: () = assert!(size_of::<PiecesState>() == 154 && align_of::<PiecesState>() == 2);
+const _: () = assert!(size_of::<PiecesEnd>() == 172 && align_of::<PiecesEnd>() == 4);
+
+impl PiecesState {
+    /// How many levels are open.
+    #[inline]
+    pub(crate) fn used(&self) -> u16 {
+        self.used
+    }
+
+    /// How many bytes came, up to 2,049.
+    #[inline]
+    pub(crate) fn count(&self) -> u16 {
+        self.count
+    }
+}
+
+/// What the finish gives: `shiulbart_pieces_end` of the header.
+#[repr(C)]
+#[derive(Clone, Copy)]
+pub(crate) struct PiecesEnd {
+    pub(crate) state: PiecesState,
+    pub(crate) answer: Answer,
+}
+
+#[inline]
+pub(crate) fn pieces_start() -> PiecesState {
+    // SAFETY: nothing is lent.
+    unsafe { shiulbart_pieces_start() }
+}
+
+#[inline]
+pub(crate) fn pieces_part(state: PiecesState, part: &[u8]) -> PiecesState {
+    // SAFETY: the part as in `read`. The state goes in and out by value.
+    unsafe { shiulbart_pieces_part(state, part.as_ptr(), part.len()) }
+}
+
+#[inline]
+pub(crate) fn pieces_finish(state: PiecesState) -> PiecesEnd {
+    // SAFETY: nothing is lent.
+    unsafe { shiulbart_pieces_finish(state) }
 }
