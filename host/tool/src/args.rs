@@ -51,6 +51,8 @@ pub struct Options {
     pub hex: bool,
     /// The answer is for a script.
     pub json: bool,
+    /// While standard input comes, standard error says how far it is.
+    pub progress: bool,
     /// The file that the answer's bytes go to.
     pub out: Option<OsString>,
 }
@@ -86,7 +88,7 @@ pub fn request(words: impl Iterator<Item = OsString>) -> Result<Request, Trouble
         return Ok(Request::Help(Some(topic)));
     }
     let command = command(topic, plain.collect())?;
-    fits(topic, &words.options)?;
+    fits(topic, &command, &words.options)?;
     Ok(Request::Run(command, words.options))
 }
 
@@ -101,6 +103,7 @@ fn sorted(mut words: impl Iterator<Item = OsString>) -> Result<Words, Trouble> {
             }
             b"--hex" => sorted.options.hex = true,
             b"--json" => sorted.options.json = true,
+            b"--progress" => sorted.options.progress = true,
             b"--help" | b"-h" => sorted.help = true,
             b"--version" => sorted.version = true,
             b"-o" => set_out(&mut sorted.options, words.next())?,
@@ -216,11 +219,21 @@ fn entry(word: &OsString) -> Result<(u16, OsString), Trouble> {
 }
 
 /// Whether the options make sense for the command.
-fn fits(topic: &Topic, options: &Options) -> Result<(), Trouble> {
+fn fits(topic: &Topic, command: &Command, options: &Options) -> Result<(), Trouble> {
+    let name = topic.name;
+    if options.progress {
+        let other = match command {
+            Command::Check(file) if file == "-" => None,
+            Command::Check(_) => Some("a file, which is read at once"),
+            _ => Some(name),
+        };
+        if let Some(other) = other {
+            return bad(&format!("--progress goes with check -, not with {other}"));
+        }
+    }
     let Some(out) = &options.out else {
         return Ok(());
     };
-    let name = topic.name;
     if !topic.makes_bytes() {
         bad(&format!("{name} makes no bytes for -o to write"))
     } else if out == "-" && options.json {
@@ -280,6 +293,7 @@ mod tests {
         let all = Options {
             hex: true,
             json: true,
+            progress: false,
             out: Some("-o".into()),
         };
         let run = Request::Run(Command::Fill(["a".into(), "b".into()]), all);
@@ -294,6 +308,18 @@ mod tests {
             Ok(Request::Run(dashes, Options::default()))
         );
         assert_eq!(command_of("check -"), Command::Check("-".into()));
+        let progress = Options {
+            progress: true,
+            ..Options::default()
+        };
+        let run = Request::Run(Command::Check("-".into()), progress);
+        for line in [
+            "check - --progress",
+            "--progress check -",
+            "check --progress -- -",
+        ] {
+            assert_eq!(asked(line).as_ref(), Ok(&run), "{line}");
+        }
     }
 
     #[test]
@@ -350,6 +376,15 @@ mod tests {
             ),
             ("check a -o b", "check makes no bytes for -o to write"),
             ("show a -o b", "show makes no bytes for -o to write"),
+            (
+                "check --progress a",
+                "--progress goes with check -, not with a file, which is read at once",
+            ),
+            (
+                "show --progress -",
+                "--progress goes with check -, not with show",
+            ),
+            ("--progress", "there is no command: see shiulbart help"),
             (
                 "fill a b -o - --json",
                 "--json needs standard output for itself, so -o - cannot have it",

@@ -21,6 +21,7 @@ pub fn run(command: &Command, options: &Options) -> Result<Outcome, Trouble> {
     };
     let mut files = Files::new(form);
     Ok(match command {
+        Command::Check(file) if file == "-" => check::run_in_parts(options.hex, options.progress)?,
         Command::Check(file) => check::run(&files.read(file)?),
         Command::Show(file) => show::run(&files.read(file)?, options.hex),
         Command::Fill([template, sheet]) => {

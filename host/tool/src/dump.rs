@@ -20,6 +20,11 @@ pub fn around(bytes: &[u8], place: usize) -> String {
     dump
 }
 
+/// How many first bytes of an input make the same dump for a place as all of them do.
+pub const fn reach(place: usize) -> usize {
+    (place / ROW + 2) * ROW
+}
+
 /// Place, bytes and, where they are ASCII, letters.
 fn line(place: usize, bytes: &[u8]) -> String {
     let letter = |byte: &u8| match byte {
@@ -66,6 +71,17 @@ mod tests {
             let rows = if (16..240).contains(&place) { 3 } else { 2 };
             assert_eq!(dump.lines().count(), rows + 1);
             assert!(!dump.contains("end"));
+        }
+    }
+
+    #[test]
+    fn what_is_out_of_reach_is_not_shown() {
+        let bytes: Vec<u8> = (0..=255).collect();
+        for place in 0..256 {
+            for length in place..=256 {
+                let within = &bytes[..length.min(reach(place))];
+                assert_eq!(around(within, place), around(&bytes[..length], place));
+            }
         }
     }
 

@@ -22,7 +22,11 @@ const TOPICS: [Topic; 8] = [
         more: "\
 Says on standard output whether the bytes are a shape: how long and how deep
 it is or, if it is refused, the refusal's number and words, the bytes around
-its place, and a caret under the byte.",
+its place, and a caret under the byte.
+
+Standard input (-) is judged part by part as it comes, and the answer comes at
+its end. With --progress, standard error has a line for each part meanwhile: how
+many bytes there are so far, and how many levels are open.",
     },
     Topic {
         name: "show",
@@ -121,7 +125,7 @@ pub fn page(topic: Option<&Topic>) -> String {
                 "shiulbart COMMAND [OPTIONS] FILES: judge, show and fill shapes in files\n\n\
                  {commands}{}\n{}\n{NOTES}",
                 two_columns("help [COMMAND]", "this page, or one about a command"),
-                options(HEX, true),
+                options(HEX, true, true),
             )
         }
     }
@@ -140,8 +144,13 @@ impl Topic {
             more,
         } = self;
         let hex = if *name == "show" { HEX_OF_SHOW } else { HEX };
-        let options = options(hex, self.makes_bytes());
+        let options = options(hex, self.waits(), self.makes_bytes());
         format!("shiulbart {name} [OPTIONS] {files}\n{about}\n\n{more}\n\n{options}")
+    }
+
+    /// Whether there is something for `--progress` to tell.
+    fn waits(&self) -> bool {
+        self.name == "check"
     }
 
     /// Whether there is something for `-o` to write.
@@ -150,9 +159,15 @@ impl Topic {
     }
 }
 
-fn options(hex: &str, out: bool) -> String {
+fn options(hex: &str, progress: bool, out: bool) -> String {
     let mut options = two_columns("--hex", hex);
     options += &two_columns("--json", "tell a script: one JSON object");
+    if progress {
+        options += &two_columns(
+            "--progress",
+            "check -: tell how far the input is, as it comes",
+        );
+    }
     if out {
         options += &two_columns("-o FILE", "write the answer's bytes to FILE");
     }

@@ -1,60 +1,123 @@
 //! Hex text: pairs of digits, with or without space between the pairs. `#` starts a comment, which
 //! goes to the end of its line.
 
+use std::fmt;
+
 /// How many bytes stand on a line of hex text.
 pub const ROW: usize = 16;
 
 /// The bytes that a hex text means, or what is no hex text in it.
 pub fn parse(text: &[u8]) -> Result<Vec<u8>, String> {
-    let mut bytes = Vec::new();
-    let mut at = 0;
-    while let Some(&letter) = text.get(at) {
-        if letter == b'#' {
-            let comment = text[at..].iter();
-            at += comment
-                .take_while(|letter| !b"\r\n".contains(letter))
-                .count();
-        } else if letter.is_ascii_whitespace() {
-            at += 1;
-        } else {
-            bytes.push(pair(text, at)?);
-            at += 2;
-        }
-    }
-    Ok(bytes)
+    let mut parts = Parts::new();
+    let bytes = parts.feed(text);
+    parts.finish().map(|()| bytes)
 }
 
-/// The byte whose two digits stand at a place.
-fn pair(text: &[u8], at: usize) -> Result<u8, String> {
-    let digit = |at: usize, letter: u8| match char::from(letter).to_digit(16) {
-        Some(digit) => Ok(digit as u8),
-        None if letter.is_ascii_graphic() => Err(format!(
-            "{}: '{}' is no hex digit",
-            position(text, at),
-            char::from(letter)
-        )),
-        None => Err(format!(
-            "{}: byte {letter:02X} is no hex digit",
-            position(text, at)
-        )),
-    };
-    let first = digit(at, text[at])?;
-    match text.get(at + 1) {
-        Some(&letter) if letter != b'#' && !letter.is_ascii_whitespace() => {
-            Ok(16 * first + digit(at + 1, letter)?)
+/// Hex text that comes in parts, which may end anywhere.
+pub struct Parts {
+    /// Where the next letter stands.
+    at: Position,
+    in_comment: bool,
+    /// The first digit of a pair whose second one is due.
+    first: Option<(u8, Position)>,
+    /// The first that is no hex text. What follows it is not looked at.
+    wrong: Option<String>,
+}
+
+impl Parts {
+    pub fn new() -> Parts {
+        Parts {
+            at: Position { line: 1, column: 1 },
+            in_comment: false,
+            first: None,
+            wrong: None,
         }
-        _ => Err(format!(
-            "{}: a byte is two hex digits, and here is one",
-            position(text, at)
-        )),
     }
+
+    /// The bytes whose second digit is in this part.
+    pub fn feed(&mut self, part: &[u8]) -> Vec<u8> {
+        let mut bytes = Vec::new();
+        for &letter in part {
+            if self.wrong.is_some() {
+                break;
+            }
+            match self.take(letter) {
+                Ok(byte) => bytes.extend(byte),
+                Err(why) => self.wrong = Some(why),
+            }
+            self.at.pass(letter);
+        }
+        bytes
+    }
+
+    /// What is no hex text in all parts, if something is.
+    pub fn finish(self) -> Result<(), String> {
+        match (self.wrong, self.first) {
+            (Some(why), _) => Err(why),
+            (None, Some((_, at))) => Err(alone(at)),
+            (None, None) => Ok(()),
+        }
+    }
+
+    /// The byte that a letter completes, if it does.
+    fn take(&mut self, letter: u8) -> Result<Option<u8>, String> {
+        if self.in_comment {
+            self.in_comment = !b"\r\n".contains(&letter);
+            return Ok(None);
+        }
+        let between = letter == b'#' || letter.is_ascii_whitespace();
+        match self.first.take() {
+            Some((_, at)) if between => Err(alone(at)),
+            Some((first, _)) => Ok(Some(16 * first + digit(letter, self.at)?)),
+            None if between => {
+                self.in_comment = letter == b'#';
+                Ok(None)
+            }
+            None => {
+                self.first = Some((digit(letter, self.at)?, self.at));
+                Ok(None)
+            }
+        }
+    }
+}
+
+fn digit(letter: u8, at: Position) -> Result<u8, String> {
+    match char::from(letter).to_digit(16) {
+        Some(digit) => Ok(digit as u8),
+        None if letter.is_ascii_graphic() => {
+            Err(format!("{at}: '{}' is no hex digit", char::from(letter)))
+        }
+        None => Err(format!("{at}: byte {letter:02X} is no hex digit")),
+    }
+}
+
+fn alone(at: Position) -> String {
+    format!("{at}: a byte is two hex digits, and here is one")
 }
 
 /// Where a letter stands, as editors count: from 1.
-fn position(text: &[u8], at: usize) -> String {
-    let above: Vec<&[u8]> = text[..at].split(|&letter| letter == b'\n').collect();
-    let column = above.last().map_or(0, |line| line.len()) + 1;
-    format!("line {}, column {column}", above.len())
+#[derive(Clone, Copy)]
+struct Position {
+    line: usize,
+    column: usize,
+}
+
+impl Position {
+    fn pass(&mut self, letter: u8) {
+        match letter {
+            b'\n' => {
+                self.line += 1;
+                self.column = 1;
+            }
+            _ => self.column += 1,
+        }
+    }
+}
+
+impl fmt::Display for Position {
+    fn fmt(&self, f: &mut fmt::Formatter<'_>) -> fmt::Result {
+        write!(f, "line {}, column {}", self.line, self.column)
+    }
 }
 
 /// `42 07 00`.
@@ -77,8 +140,22 @@ pub fn text(bytes: &[u8]) -> String {
 mod tests {
     use super::*;
 
+    /// In one part, letter by letter, and cut in two everywhere: it is always the same.
     fn bytes(text: &str) -> Result<Vec<u8>, String> {
-        parse(text.as_bytes())
+        let text = text.as_bytes();
+        let whole = parse(text);
+        assert_eq!(in_parts(text.chunks(1)), whole);
+        for cut in 0..=text.len() {
+            let (before, after) = text.split_at(cut);
+            assert_eq!(in_parts([before, after]), whole);
+        }
+        whole
+    }
+
+    fn in_parts<'a>(parts: impl IntoIterator<Item = &'a [u8]>) -> Result<Vec<u8>, String> {
+        let mut text = Parts::new();
+        let bytes = parts.into_iter().flat_map(|part| text.feed(part)).collect();
+        text.finish().map(|()| bytes)
     }
 
     #[test]

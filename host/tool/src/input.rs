@@ -3,7 +3,7 @@
 use crate::{hex, words, Trouble};
 use std::ffi::OsStr;
 use std::fs::File;
-use std::io::{self, Read};
+use std::io::{self, BufRead, ErrorKind, Read};
 
 /// No more of a file is read. It is far above what the longest table takes, as hex text with comments
 /// too, so whatever is longer is none of these; up to it the calls refuse what is too long.
@@ -64,19 +64,15 @@ impl Files {
     }
 
     fn input(&self, name: String, content: io::Result<Vec<u8>>) -> Result<Input, Trouble> {
-        let content = content.map_err(|error| {
-            Trouble::with(&name, format!("cannot be read: {}", words::error(&error)))
-        })?;
+        let content = content.map_err(|error| unreadable(&name, &error))?;
         if content.len() > MOST {
-            let most = words::count(MOST, "byte");
-            let long = format!("too long: over {most}, and no shape, sheet or table is that long");
-            return Err(Trouble::with(&name, long));
+            return Err(too_long(&name));
         }
         let (bytes, no_hex) = match self.form {
             Form::Bytes => (content, None),
             Form::Hex => match hex::parse(&content) {
                 Ok(bytes) => (bytes, None),
-                Err(why) => return Err(Trouble::with(&name, format!("not hex: {why}"))),
+                Err(why) => return Err(not_hex(&name, &why)),
             },
             Form::Either => either(content),
         };
@@ -86,6 +82,61 @@ impl Files {
             no_hex,
         })
     }
+}
+
+/// Reads standard input part by part: the bytes of each are handed on before the next one is waited
+/// for. Of all bytes, the answer has the first ones, up to so many. What is wrong with the input is
+/// what [`Files::read`] would say of it.
+pub fn in_parts(
+    hex: bool,
+    most_kept: usize,
+    mut hand_on: impl FnMut(&[u8]),
+) -> Result<Input, Trouble> {
+    let mut standard_input = io::stdin().lock();
+    let mut text = hex.then(hex::Parts::new);
+    let mut kept = Vec::new();
+    let mut length = 0;
+    loop {
+        // the buffer is empty here, so this is one read of what is behind it
+        let part = match standard_input.fill_buf() {
+            Ok([]) => break,
+            Ok(part) => part,
+            Err(error) if error.kind() == ErrorKind::Interrupted => continue,
+            Err(error) => return Err(unreadable(STANDARD_INPUT, &error)),
+        };
+        let read = part.len();
+        length += read;
+        if length > MOST {
+            return Err(too_long(STANDARD_INPUT));
+        }
+        let decoded = text.as_mut().map(|text| text.feed(part));
+        let bytes = decoded.as_deref().unwrap_or(part);
+        kept.extend(&bytes[..bytes.len().min(most_kept - kept.len())]);
+        hand_on(bytes);
+        standard_input.consume(read);
+    }
+    if let Some(Err(why)) = text.map(hex::Parts::finish) {
+        return Err(not_hex(STANDARD_INPUT, &why));
+    }
+    Ok(Input {
+        name: STANDARD_INPUT.to_string(),
+        bytes: kept,
+        no_hex: None,
+    })
+}
+
+fn unreadable(name: &str, error: &io::Error) -> Trouble {
+    Trouble::with(name, format!("cannot be read: {}", words::error(error)))
+}
+
+fn too_long(name: &str) -> Trouble {
+    let most = words::count(MOST, "byte");
+    let long = format!("too long: over {most}, and no shape, sheet or table is that long");
+    Trouble::with(name, long)
+}
+
+fn not_hex(name: &str, why: &str) -> Trouble {
+    Trouble::with(name, format!("not hex: {why}"))
 }
 
 /// The bytes of [`Form::Either`], and why they are those of the file itself.

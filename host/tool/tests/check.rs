@@ -1,9 +1,14 @@
-//! `check`: what is a shape, what is none, and the caret under the byte.
+//! `check`: what is a shape, what is none, the caret under the byte, and standard input as it comes.
 
 mod common;
 
-use common::{arrays, caret, json, long, repository, Folder, M4};
-use std::fs;
+use common::{arrays, caret, device, feed, json, long, repository, Folder, Ran, M4};
+use std::fs::{self, File};
+use std::io::{BufRead, BufReader, Write};
+use std::process::{Child, Stdio};
+use std::sync::mpsc::{self, Receiver};
+use std::thread;
+use std::time::Duration;
 
 /// What `check` says of bytes: exit status and standard output. It says nothing else.
 fn check(bytes: &[u8]) -> (i32, String) {
@@ -158,6 +163,246 @@ fn from_standard_input() {
     assert!(ran
         .text()
         .starts_with("standard input: refused, number 1: cut short at byte 0\n"));
+}
+
+/// What is said of standard input is what is said of a file, but for the name.
+#[test]
+fn standard_input_as_a_file() {
+    let mut inputs: Vec<Vec<u8>> = vec![vec![], M4.to_vec(), arrays(15, &[0x60])];
+    let examples = fs::read_to_string(repository("examples/expected")).unwrap();
+    for line in examples.lines() {
+        let name = line.split_whitespace().next().unwrap();
+        inputs.push(fs::read(repository("examples").join(name)).unwrap());
+    }
+    // rows around byte 2,048, of which each byte is another
+    let count = |length| (0..length).map(|k: u32| (k % 251) as u8).collect();
+    let lengths = [
+        2048, 2049, 2063, 2064, 2065, 2079, 2080, 2081, 5000, 100_000,
+    ];
+    inputs.extend(lengths.map(count));
+    let folder = Folder::new();
+    for bytes in inputs {
+        let row = |row: &[u8]| {
+            let pairs: Vec<String> = row.iter().map(|byte| format!("{byte:02x}")).collect();
+            pairs.join(" ") + " # a row\n"
+        };
+        let hex: String = bytes.chunks(7).map(row).collect();
+        for (options, content) in [("", &bytes[..]), ("--hex", hex.as_bytes())] {
+            for json in ["", "--json"] {
+                folder.put("m", content);
+                let file = folder.line(&format!("check {options} {json} m"));
+                let fed = folder.fed(&format!("check {options} {json} -"), content);
+                let named = match json {
+                    "" => file.text().replacen("m: ", "standard input: ", 1),
+                    _ => file
+                        .text()
+                        .replace(r#""file":"m""#, r#""file":"standard input""#),
+                };
+                assert_eq!(fed.text(), named);
+                assert_eq!((fed.status, &fed.err), (file.status, &file.err));
+            }
+        }
+    }
+}
+
+/// And so is what is wrong with it, hex text that is broken and too long among it.
+#[test]
+fn standard_input_that_cannot_be_read() {
+    let folder = Folder::new();
+    let spaces = vec![b' '; 4 << 20];
+    for hex in [
+        &b"42 0"[..],
+        b"4",
+        b"4 2",
+        b"42\n0g 07",
+        b"42 # \xff\n\xff",
+        &[&b"x"[..], &spaces[1..]].concat(),
+        &[&b"x"[..], &spaces].concat(),
+        &[&spaces[..], b" "].concat(),
+    ] {
+        folder.put("m", hex);
+        let file = folder.line("check --hex m").trouble();
+        for line in ["check --hex -", "check --hex --json -"] {
+            let fed = folder.fed(line, hex).trouble();
+            assert_eq!(fed, file.replacen("m: ", "standard input: ", 1));
+        }
+    }
+    let mut command = folder.command(&["check", "-"]);
+    command.stdin(File::open(folder.path(".")).unwrap());
+    assert_eq!(
+        Ran::of(command.output().unwrap()).trouble(),
+        "standard input: cannot be read: is a directory"
+    );
+}
+
+/// The program with a line of words, which is fed part by part and told on.
+struct Waiting {
+    folder: Folder,
+    child: Child,
+    /// The lines of its standard error.
+    lines: Receiver<String>,
+}
+
+impl Waiting {
+    /// Starts it. Its standard output is a file, which can be looked at without waiting.
+    fn started(line: &str) -> Waiting {
+        let folder = Folder::new();
+        let words: Vec<&str> = line.split_whitespace().collect();
+        let mut command = folder.command(&words);
+        command.stdin(Stdio::piped()).stderr(Stdio::piped());
+        command.stdout(File::create(folder.path("out")).unwrap());
+        let mut child = command.spawn().unwrap();
+        let err = BufReader::new(child.stderr.take().unwrap());
+        let (sender, lines) = mpsc::channel();
+        thread::spawn(move || err.lines().try_for_each(|line| sender.send(line.unwrap())));
+        Waiting {
+            folder,
+            child,
+            lines,
+        }
+    }
+
+    fn send(&mut self, part: &[u8]) {
+        let stdin = self.child.stdin.as_mut().unwrap();
+        stdin.write_all(part).unwrap();
+    }
+
+    /// The line that says how far it is. As the next part is sent only then, each part is one read.
+    #[track_caller]
+    fn line(&self) -> String {
+        let long = Duration::from_secs(60);
+        self.lines.recv_timeout(long).expect("a line for each part")
+    }
+
+    /// It goes on waiting, and has not said a word of an answer.
+    #[track_caller]
+    fn waits(&mut self) {
+        thread::sleep(Duration::from_millis(50));
+        assert_eq!(self.child.try_wait().unwrap(), None);
+        assert_eq!(self.folder.bytes("out"), b"");
+    }
+
+    /// What comes of it once the input has ended.
+    fn end(mut self) -> Ran {
+        drop(self.child.stdin.take());
+        let status = self
+            .child
+            .wait()
+            .unwrap()
+            .code()
+            .expect("it was not killed");
+        Ran {
+            status,
+            out: self.folder.bytes("out"),
+            err: self.lines.iter().map(|line| line + "\n").collect(),
+        }
+    }
+}
+
+#[test]
+fn progress_comes_before_the_end_and_the_answer_after() {
+    let mut program = Waiting::started("check --progress -");
+    program.waits();
+    for (part, line) in [
+        (&M4[..2], "2 bytes so far, 0 levels open"),
+        (&M4[2..3], "3 bytes so far, 1 level open"),
+        (&M4[3..6], "6 bytes so far, 1 level open"),
+        (&M4[6..], "10 bytes so far, 0 levels open"),
+    ] {
+        program.send(part);
+        assert_eq!(program.line(), line);
+        program.waits();
+    }
+    assert_eq!(
+        program.end().page(),
+        "standard input: ok, 10 bytes, 3 levels\n"
+    );
+}
+
+/// A byte that is refused wherever it stands does not end the waiting, nor does one too many.
+#[test]
+fn a_refusal_waits_for_the_end_too() {
+    let mut program = Waiting::started("check - --progress --json");
+    program.send(&[0xA0]);
+    assert_eq!(program.line(), "1 byte so far, 0 levels open");
+    program.waits();
+    program.send(&[0x20; 2047]);
+    assert_eq!(program.line(), "2,048 bytes so far, 0 levels open");
+    for _ in 0..2 {
+        program.send(&[0x20; 100]);
+        assert_eq!(program.line(), "over 2,048 bytes so far, 0 levels open");
+        program.waits();
+    }
+    let ran = program.end();
+    assert_eq!((ran.status, &ran.err[..]), (1, ""));
+    let told = json::line(ran.text());
+    assert_eq!(told.number("refusal number"), 8);
+    assert_eq!(told.text("refusal file"), "standard input");
+}
+
+/// A part of hex text may end within a byte or a comment. The bytes are those that are there.
+#[test]
+fn progress_of_hex_text() {
+    let mut program = Waiting::started("check --hex --progress -");
+    for (part, line) in [
+        ("40 0", "1 byte so far, 0 levels open"),
+        ("4 00#", "3 bytes so far, 1 level open"),
+        (" 40 01 00", "3 bytes so far, 1 level open"),
+        ("\n400", "4 bytes so far, 1 level open"),
+        ("100", "6 bytes so far, 2 levels open"),
+        ("  0", "6 bytes so far, 2 levels open"),
+        ("7 ", "7 bytes so far, 0 levels open"),
+    ] {
+        program.send(part.as_bytes());
+        assert_eq!(program.line(), line, "{part}");
+    }
+    program.waits();
+    assert_eq!(
+        program.end().page(),
+        "standard input: ok, 7 bytes, 3 levels\n"
+    );
+
+    let mut program = Waiting::started("check --hex --progress -");
+    program.send(b"42 x");
+    assert_eq!(program.line(), "1 byte so far, 0 levels open");
+    program.waits();
+    program.send(b"y 42");
+    assert_eq!(program.line(), "1 byte so far, 0 levels open");
+    program.waits();
+    assert_eq!(
+        program.end().trouble(),
+        "standard input: not hex: line 1, column 4: 'x' is no hex digit"
+    );
+}
+
+#[test]
+fn no_progress_without_a_part_or_the_option() {
+    let none = Folder::new().fed("check --progress -", b"");
+    assert_eq!((none.status, &none.err[..]), (1, ""));
+    let mut program = Waiting::started("check -");
+    for part in M4.chunks(4) {
+        program.send(part);
+        program.waits();
+    }
+    assert_eq!(
+        program.end().page(),
+        "standard input: ok, 10 bytes, 3 levels\n"
+    );
+}
+
+/// Nobody can read how far it is: it is judged all the same.
+#[test]
+fn progress_with_standard_error_full() {
+    let Some(full) = device("/dev/full") else {
+        return;
+    };
+    let folder = Folder::new();
+    let mut command = folder.command(&["check", "--progress", "-"]);
+    command.stdin(Stdio::piped()).stdout(Stdio::piped());
+    let mut child = command.stderr(Stdio::from(full)).spawn().unwrap();
+    feed(&mut child, &M4);
+    let ran = Ran::of(child.wait_with_output().unwrap());
+    assert_eq!(ran.page(), "standard input: ok, 10 bytes, 3 levels\n");
 }
 
 /// The place is a byte, not a letter of the hex text.

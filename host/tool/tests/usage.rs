@@ -15,7 +15,7 @@ fn help() {
     ] {
         assert!(page.contains(&format!("\n  {name} ")), "{page}");
     }
-    for option in ["--hex", "--json", "-o FILE", "--"] {
+    for option in ["--hex", "--json", "--progress", "-o FILE", "--"] {
         assert!(page.contains(&format!("\n  {option} ")), "{page}");
     }
     assert!(page.contains("exit status is 0"), "{page}");
@@ -39,6 +39,8 @@ fn help() {
     assert!(!show.contains("-o FILE"), "{show}");
     let check = folder.line("help check").page();
     assert!(check.contains("files are hex text"), "{check}");
+    assert!(check.contains("\n  --progress "), "{check}");
+    assert!(!show.contains("--progress"), "{show}");
 }
 
 #[test]
@@ -79,6 +81,14 @@ fn bad_use() {
         ),
         ("check m -o a", "check makes no bytes for -o to write"),
         ("show m -o a", "show makes no bytes for -o to write"),
+        (
+            "check m --progress",
+            "--progress goes with check -, not with a file, which is read at once",
+        ),
+        (
+            "fill - s --progress",
+            "--progress goes with check -, not with fill",
+        ),
         (
             "fill m s --json -o -",
             "--json needs standard output for itself, so -o - cannot have it",
