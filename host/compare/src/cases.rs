@@ -5,6 +5,7 @@
 use crate::random::Random;
 
 pub mod fills;
+pub mod pieces;
 pub mod sheets;
 pub mod table;
 pub mod tables;

@@ -10,6 +10,7 @@
 
 pub mod fill;
 pub mod parts;
+pub mod pieces;
 pub mod sheet;
 pub mod table;
 pub mod write;

@@ -13,6 +13,7 @@ pub mod shrink;
 pub mod stack;
 pub mod wrong;
 
+use question::{AllFinished, Fed};
 use shiulbart::NodeRecord;
 
 /// What a call says, as the four numbers of the board's answer. Number 0 is an answer; extra is the
@@ -651,6 +652,126 @@ pub mod write_records {
         ("refuses the length needed", room_to_spare),
         ("writes one byte more", one_byte_more),
         ("refuses, but writes what fits", writes_what_fits),
+    ];
+}
+
+/// A program that is fed with the parts of an input, in each way that it is cut.
+pub type Feeds = fn(&Fed) -> AllFinished;
+
+/// A model with one fault for such a call, and the fault in words.
+pub type WrongFeeds = (&'static str, Feeds);
+
+/// The piece reader of each program.
+pub mod pieces {
+    use crate::fast::pieces::{self, fault::*};
+    use crate::question::{feed, AllFinished, Fed, Reader};
+    use crate::{read, Outcome, WrongFeeds};
+
+    impl Reader for shiulbart::Pieces {
+        fn start() -> Self {
+            Self::new()
+        }
+
+        fn part(&mut self, part: &[u8]) {
+            self.feed(part);
+        }
+
+        fn finish(&mut self) -> Outcome {
+            match self.finish() {
+                Ok(accepted) => Outcome::answer(accepted.length, accepted.depth as usize),
+                Err(refusal) => Outcome::refusal(refusal.number(), refusal.place()),
+            }
+        }
+    }
+
+    impl Reader for model::pieces::Pieces {
+        fn start() -> Self {
+            Self::start()
+        }
+
+        fn part(&mut self, part: &[u8]) {
+            self.part(part);
+        }
+
+        fn finish(&mut self) -> Outcome {
+            said(self.finish())
+        }
+    }
+
+    impl<const FAULT: u8> Reader for pieces::Reader<FAULT> {
+        fn start() -> Self {
+            Self::start()
+        }
+
+        fn part(&mut self, part: &[u8]) {
+            self.part(part);
+        }
+
+        fn finish(&mut self) -> Outcome {
+            match self.finish() {
+                Ok(accepted) => Outcome::answer(accepted.length, accepted.depth as usize),
+                Err(refusal) => Outcome::refusal(refusal.number, refusal.place),
+            }
+        }
+    }
+
+    fn said(answer: Result<model::pieces::Accepted, model::Refusal>) -> Outcome {
+        match answer {
+            Ok(accepted) => Outcome::answer(accepted.length, accepted.depth as usize),
+            Err(refusal) => Outcome::refusal(refusal.number, refusal.place),
+        }
+    }
+
+    /// What the model says of these parts.
+    pub fn model(parts: &[&[u8]]) -> Outcome {
+        said(model::pieces::read_parts(parts))
+    }
+
+    pub fn proved(fed: &Fed) -> AllFinished {
+        feed::<shiulbart::Pieces>(fed)
+    }
+
+    /// The proved `read` on the parts joined.
+    pub fn by_read(fed: &Fed) -> AllFinished {
+        fed.steady(read::proved(&fed.bytes))
+    }
+
+    /// The fast reader: right with fault 0, else a wrong model.
+    pub fn fast<const FAULT: u8>(fed: &Fed) -> AllFinished {
+        feed::<pieces::Reader<FAULT>>(fed)
+    }
+
+    pub const WRONG: [WrongFeeds; 27] = [
+        ("refuses everything", fast::<REFUSES_EVERYTHING>),
+        ("gives one fixed answer", fast::<ONE_FIXED_ANSWER>),
+        ("places a cut root at the end", fast::<CUT_AT_THE_END>),
+        (
+            "places it at the innermost shape",
+            fast::<CUT_AT_THE_INNERMOST>,
+        ),
+        ("gives 8 if nothing else is wrong", fast::<EIGHT_LAST>),
+        ("gives faults inside a cut root", fast::<INSIDE_FIRST>),
+        ("counts a part after the finish", fast::<COUNTED_AFTER>),
+        ("gives 8 by single parts", fast::<EIGHT_BY_PART>),
+        ("takes the first 2,048 of more", fast::<FIRST_2048>),
+        ("wraps the count at 65,536", fast::<COUNT_OF_16_BITS>),
+        ("forgets half a size at a cut", fast::<SIZE_FORGOTTEN>),
+        ("forgets half a LEB128 at a cut", fast::<NUMBER_FORGOTTEN>),
+        ("refuses a character that is cut", fast::<CHARACTER_REFUSED>),
+        ("forgets a character's bounds", fast::<BOUNDS_FORGOTTEN>),
+        ("forgets the depth at a cut", fast::<DEEPEST_FORGOTTEN>),
+        ("forgets a Map's key at a cut", fast::<KEY_FORGOTTEN>),
+        ("has entries for 15 levels", fast::<FIFTEEN_ENTRIES>),
+        ("counts places from the part", fast::<PLACES_IN_PART>),
+        ("gives the last part's length", fast::<LENGTH_OF_LAST>),
+        ("reads the last part alone", fast::<LAST_ALONE>),
+        ("takes an empty part for the finish", fast::<EMPTY_FINISHES>),
+        ("takes an empty part for a byte", fast::<EMPTY_COUNTED>),
+        ("starts anew after the finish", fast::<STARTS_ANEW>),
+        ("notes where it was cut", fast::<CUT_NOTED>),
+        ("notes an empty part", fast::<EMPTY_NOTED>),
+        ("notes a part after the finish", fast::<AFTER_NOTED>),
+        ("notes how often it finished", fast::<FINISH_NOTED>),
     ];
 }
 

@@ -1,9 +1,10 @@
-//! What a call is asked: bytes, a part of them, or one or two inputs and lent buffers. Programs are
-//! asked, what they say is compared, and a question on which they differ can be made smaller.
+//! What a call is asked: bytes, a part of them, one or two inputs and lent buffers, or bytes in parts.
+//! Programs are asked, what they say is compared, and a question on which they differ can be made
+//! smaller.
 
 use crate::cases::table::RecordTable;
 use crate::shrink::{drop_entries, shrink, shrink_records, shrink_sheet};
-use crate::{hex, Lends, Made, Makes, MakesOfRecords, Outcome, Parts};
+use crate::{hex, pieces, Feeds, Lends, Made, Makes, MakesOfRecords, Outcome, Parts};
 use crate::{Whole, WholeOf, WholeOfRecords};
 use std::cell::Cell;
 use std::fmt;
@@ -401,5 +402,319 @@ impl fmt::Display for AllLent {
             }
         }
         Ok(())
+    }
+}
+
+// -------------------------------------------------------------------------------------------------
+// Bytes in parts
+
+/// Where an input is cut into parts.
+#[derive(Clone, Debug, PartialEq, Eq)]
+pub enum Cuts {
+    /// in two, before the byte at this place
+    InTwo(usize),
+    /// before the bytes at these places, which do not fall: between two equal ones is an empty part
+    At(Vec<usize>),
+    /// into parts of so many bytes, the last of which can be shorter
+    Each(usize),
+}
+
+impl Cuts {
+    /// The parts of an input, one after the other.
+    pub fn each<'a>(&self, bytes: &'a [u8], mut part: impl FnMut(&'a [u8])) {
+        match self {
+            Cuts::InTwo(place) => {
+                let (first, second) = bytes.split_at(*place);
+                part(first);
+                part(second);
+            }
+            Cuts::At(places) => {
+                let mut from = 0;
+                for &place in places {
+                    part(&bytes[from..place]);
+                    from = place;
+                }
+                part(&bytes[from..]);
+            }
+            Cuts::Each(size) => bytes.chunks(*size).for_each(part),
+        }
+    }
+
+    pub fn parts<'a>(&self, bytes: &'a [u8]) -> Vec<&'a [u8]> {
+        let mut parts = Vec::new();
+        self.each(bytes, |part| parts.push(part));
+        parts
+    }
+
+    /// The same cuts of an input of so many bytes, as far as it has those places.
+    fn within(&self, length: usize) -> Cuts {
+        match self {
+            Cuts::InTwo(place) => Cuts::InTwo(length.min(*place)),
+            Cuts::At(places) => Cuts::At(places.iter().map(|place| length.min(*place)).collect()),
+            Cuts::Each(size) => Cuts::Each(*size),
+        }
+    }
+}
+
+/// A reader that is fed with parts.
+pub trait Reader: Clone + PartialEq {
+    fn start() -> Self;
+    fn part(&mut self, part: &[u8]);
+    fn finish(&mut self) -> Outcome;
+}
+
+/// An input, several ways to cut it into parts, and a part that comes after the finish, for the piece
+/// reader.
+pub struct Fed {
+    pub bytes: Vec<u8>,
+    pub cuttings: Vec<Cuts>,
+    pub after: Vec<u8>,
+    /// what the model says of the parts of the first cutting
+    pub whole: Outcome,
+}
+
+/// What a reader says of the parts of one cutting.
+#[derive(Clone, PartialEq)]
+pub struct Finished {
+    pub outcome: Outcome,
+    /// at the second finish, and at the third, after one more part
+    pub again: [Outcome; 2],
+    /// what is wrong with its state
+    pub state: Option<&'static str>,
+}
+
+/// What it says of each cutting.
+#[derive(PartialEq)]
+pub struct AllFinished(pub Vec<Finished>);
+
+impl Finished {
+    /// As it must be: the finish repeats its answer, and the state is as it must be.
+    fn steady(outcome: Outcome) -> Finished {
+        Finished {
+            outcome,
+            again: [outcome; 2],
+            state: None,
+        }
+    }
+}
+
+/// Feeds a reader with the parts of each cutting, and looks at its state. The same bytes must lead to the
+/// same one however they are cut; and an empty part, one that comes after the finish, and a finish that is
+/// not the first must not change it.
+pub fn feed<R: Reader>(fed: &Fed) -> AllFinished {
+    let mut whole = R::start();
+    whole.part(&fed.bytes);
+    let finished = fed.cuttings.iter().map(|cuts| {
+        let mut reader = R::start();
+        let mut state = None;
+        cuts.each(&fed.bytes, |part| match part {
+            [] => {
+                let before = reader.clone();
+                reader.part(part);
+                if reader != before {
+                    state = Some("an empty part changes it");
+                }
+            }
+            _ => reader.part(part),
+        });
+        if reader != whole {
+            state = state.or(Some("in one part it is another"));
+        }
+        let outcome = reader.finish();
+        let closed = reader.clone();
+        let mut kept = |reader: &R, what| {
+            if *reader != closed {
+                state = state.or(Some(what));
+            }
+        };
+        let second = reader.finish();
+        kept(&reader, "the second finish changes it");
+        reader.part(&fed.after);
+        kept(&reader, "a part after the finish changes it");
+        let third = reader.finish();
+        kept(&reader, "the third finish changes it");
+        Finished {
+            outcome,
+            again: [second, third],
+            state,
+        }
+    });
+    AllFinished(finished.collect())
+}
+
+impl Fed {
+    pub fn new(bytes: Vec<u8>, cuttings: Vec<Cuts>, after: Vec<u8>) -> Fed {
+        let whole = pieces::model(&cuttings[0].parts(&bytes));
+        Fed {
+            bytes,
+            cuttings,
+            after,
+            whole,
+        }
+    }
+
+    /// The same for every cutting: the parts joined are the same bytes. That the finish repeats its
+    /// answer is written here once more; tests hold it to the model's own finish.
+    pub fn right(&self) -> AllFinished {
+        AllFinished(vec![Finished::steady(self.whole); self.cuttings.len()])
+    }
+
+    /// What is said if all cuttings must say the same.
+    pub fn steady(&self, outcome: Outcome) -> AllFinished {
+        AllFinished(vec![Finished::steady(outcome); self.cuttings.len()])
+    }
+
+    /// The question with one cutting.
+    fn with(&self, cuts: Cuts, after: &[u8]) -> Fed {
+        Fed {
+            bytes: self.bytes.clone(),
+            cuttings: vec![cuts],
+            after: after.to_vec(),
+            whole: self.whole,
+        }
+    }
+
+    /// The one cutting that shows a difference.
+    fn telling(&self, differs: &dyn Fn(&Fed) -> bool) -> Fed {
+        let mut each = self.cuttings.iter();
+        each.find_map(|cuts| Some(self.with(cuts.clone(), &self.after)).filter(differs))
+            .expect("it differs with one of the cuttings")
+    }
+
+    /// The smallest found that differs, with the fewest cuts that show it.
+    pub fn smallest(&self, differs: &dyn Fn(&Fed) -> bool) -> Fed {
+        // so many places are tried of an input, and a longer one is only made shorter from its end
+        const MOST_PLACES: usize = 64;
+        const LONGEST: usize = 4096;
+        let own = self.telling(differs);
+        let tries = Tries::default();
+        // not cut at all, cut in two, with an empty part, as it was, into bytes
+        let cut = |bytes: &[u8]| {
+            let length = bytes.len();
+            let mut cuttings = vec![Cuts::At(vec![])];
+            if length <= MOST_PLACES {
+                cuttings.extend((0..=length).map(Cuts::InTwo));
+                cuttings.extend((0..=length).map(|place| Cuts::At(vec![place, place])));
+            }
+            cuttings.extend([own.cuttings[0].within(length), Cuts::Each(1)]);
+            Fed::new(bytes.to_vec(), cuttings, own.after.clone())
+        };
+        let telling = |bytes: &[u8]| tries.one_more() && differs(&cut(bytes));
+        let mut bytes = own.bytes.clone();
+        let mut size = bytes.len();
+        while size > 0 {
+            let shorter = bytes.len().saturating_sub(size);
+            match shorter < bytes.len() && telling(&bytes[..shorter]) {
+                true => bytes.truncate(shorter),
+                false => size /= 2,
+            }
+        }
+        if bytes.len() <= LONGEST {
+            bytes = shrink(&bytes, telling);
+        }
+        let mut small = cut(&bytes).telling(differs);
+        for after in [&[][..], &[0x20]] {
+            let simpler = small.with(small.cuttings[0].clone(), after);
+            if after.len() < small.after.len() && differs(&simpler) {
+                small = simpler;
+                break;
+            }
+        }
+        while let Some(fewer) = small.fewer_cuts().into_iter().find(|fewer| differs(fewer)) {
+            small = fewer;
+        }
+        small
+    }
+
+    /// The question without one of its cuts, for each of them.
+    fn fewer_cuts(&self) -> Vec<Fed> {
+        let without = |places: &[usize], index: usize| {
+            let mut places = places.to_vec();
+            places.remove(index);
+            self.with(Cuts::At(places), &self.after)
+        };
+        match &self.cuttings[0] {
+            Cuts::At(places) => (0..places.len()).map(|i| without(places, i)).collect(),
+            _ => vec![],
+        }
+    }
+}
+
+impl Question for Fed {
+    type Program = Feeds;
+    type Said = AllFinished;
+
+    fn ask(&self, program: Feeds) -> AllFinished {
+        program(self)
+    }
+
+    fn outcomes(said: &AllFinished) -> Vec<Outcome> {
+        said.0.iter().map(|finished| finished.outcome).collect()
+    }
+}
+
+/// As hex, with equal bytes in a long row written once.
+fn in_rows(bytes: &[u8]) -> String {
+    const LONG: usize = 16;
+    let mut words = Vec::new();
+    let mut left = bytes;
+    while let Some(byte) = left.first() {
+        let same = left.iter().take_while(|other| *other == byte).count();
+        let (word, taken) = match same < LONG {
+            true => (hex(&[*byte]), 1),
+            false => (format!("{byte:02X}x{same}"), same),
+        };
+        words.push(word);
+        left = &left[taken..];
+    }
+    match &words[..] {
+        [] => hex(bytes),
+        words => words.join(" "),
+    }
+}
+
+impl fmt::Display for Fed {
+    fn fmt(&self, out: &mut fmt::Formatter<'_>) -> fmt::Result {
+        match &self.cuttings[..] {
+            [cuts] => {
+                let parts = cuts.parts(&self.bytes).into_iter().map(in_rows);
+                match &parts.collect::<Vec<String>>()[..] {
+                    [] => write!(out, "(no part)")?,
+                    parts => write!(out, "{}", parts.join(" / "))?,
+                }
+            }
+            all => write!(out, "{} | cut in {} ways", in_rows(&self.bytes), all.len())?,
+        }
+        match &self.after[..] {
+            [] => Ok(()),
+            after => write!(out, " | {} after the finish", in_rows(after)),
+        }
+    }
+}
+
+impl fmt::Display for Finished {
+    fn fmt(&self, out: &mut fmt::Formatter<'_>) -> fmt::Result {
+        let [second, third] = self.again;
+        write!(out, "{}", self.outcome)?;
+        if self.again != [self.outcome; 2] {
+            write!(out, ", again {second}, after a part {third}")?;
+        }
+        match self.state {
+            Some(state) => write!(out, " (its state: {state})"),
+            None => Ok(()),
+        }
+    }
+}
+
+impl fmt::Display for AllFinished {
+    fn fmt(&self, out: &mut fmt::Formatter<'_>) -> fmt::Result {
+        let mut different: Vec<&Finished> = Vec::new();
+        for finished in &self.0 {
+            if !different.contains(&finished) {
+                different.push(finished);
+            }
+        }
+        let words: Vec<String> = different.iter().map(|own| own.to_string()).collect();
+        write!(out, "{}", words.join(" or "))
     }
 }

@@ -9,9 +9,11 @@ use crate::cases::table::{
 use crate::cases::{function, leb128, long, nested, record, symbol};
 use crate::Parts;
 
-/// What a call may take. `write` notes something of each of up to 6,144 nodes, and `write_records` holds
-/// their section, of 36,864 bytes, beside that.
+/// What a call may take. The state of the piece reader goes in and out by value, and its caller's copies
+/// count. `write` notes something of each of up to 6,144 nodes, and `write_records` holds their section, of
+/// 36,864 bytes, beside that.
 pub const MOST_FOR_READ: usize = 4096;
+pub const MOST_FOR_PIECES: usize = 4096;
 pub const MOST_FOR_ANOTHER: usize = 8192;
 pub const MOST_FOR_TABLES: usize = 32_768;
 pub const MOST_FOR_RECORDS: usize = 65_536;
@@ -138,6 +140,42 @@ pub fn worst_for_read() -> Vec<(&'static str, Vec<u8>)> {
         ),
         ("2,049 bytes", vec![0x00; 2049]),
     ]
+}
+
+/// The stored worst inputs for the piece reader: those for `read`, and more that are refused early, late,
+/// inside a root that is cut short, or for their length.
+pub fn worst_for_pieces() -> Vec<(&'static str, Vec<u8>)> {
+    let spoilt = |mut bytes: Vec<u8>| {
+        *bytes.last_mut().expect("it is not empty") = 0xFF;
+        bytes
+    };
+    let cut = |mut bytes: Vec<u8>| {
+        bytes.pop();
+        bytes
+    };
+    let deep = nested(15, &[0x02], |inner| function(128, &[0x00; 128], inner));
+    let texts = symbol("\u{1F6A1}".repeat(510).as_bytes());
+    let mut inputs = worst_for_read();
+    inputs.extend([
+        ("no bytes", vec![]),
+        ("2,048 bytes of FF", vec![0xFF; 2048]),
+        ("15 levels of 128 blanks, cut short", cut(deep.clone())),
+        ("15 levels of 128 blanks, spoilt at the end", spoilt(deep)),
+        (
+            "510 characters of four bytes, cut short",
+            cut(texts.clone()),
+        ),
+        (
+            "510 characters of four bytes, spoilt at the end",
+            spoilt(texts),
+        ),
+        (
+            "a fault in a root that is cut short",
+            [&[0x43, 0xFF, 0xFF, 0x01][..], &[0xFF; 2044]].concat(),
+        ),
+        ("70,000 bytes", vec![0x20; 70_000]),
+    ]);
+    inputs
 }
 
 /// The stored worst inputs for `child` and `name`: those for `read`, and more with a long list of

@@ -1,11 +1,13 @@
 //! The inputs are the same on every machine, and reach every depth and number.
 
 use compare::cases::fills::{Chains, FillInputs, JoinInputs};
+use compare::cases::pieces::{always_pieces, Cutter, PieceInputs, BETWEEN, LAST_PLACE};
 use compare::cases::sheets::{symbol_of, SheetInputs};
 use compare::cases::table::{doubled, largest, m4_table, wrapping, RecordTable, Table, M4};
 use compare::cases::tables::records::{always_records, RecordInputs};
 use compare::cases::tables::{always_write, EncodingInputs, WriteInputs};
 use compare::cases::{any_k, Inputs, PartInputs};
+use compare::question::Cuts;
 use compare::random::Random;
 use compare::{fill, join, read, sheet, table, write};
 
@@ -38,6 +40,17 @@ fn same_seed_same_inputs() {
     let inputs = |seed| RecordInputs::new(seed).take(500).collect::<Vec<_>>();
     assert!(inputs(1) == inputs(1));
     assert!(inputs(1) != inputs(2));
+    let inputs = |seed| PieceInputs::new(seed).take(500).collect::<Vec<_>>();
+    assert!(inputs(1) == inputs(1));
+    assert!(inputs(1) != inputs(2));
+    let cuttings = |seed| {
+        let mut cutter = Cutter::new(seed, 64);
+        let inputs = PieceInputs::new(1).take(500);
+        let fed = inputs.map(|bytes| cutter.cut(bytes));
+        fed.map(|fed| (fed.cuttings, fed.after)).collect::<Vec<_>>()
+    };
+    assert!(cuttings(1) == cuttings(1));
+    assert!(cuttings(1) != cuttings(2));
 }
 
 /// The numbers that splitmix64 gives for this seed wherever it is published.
@@ -331,4 +344,75 @@ fn encodings_for_tables_are_mostly_accepted() {
         .collect();
     assert!(made.len() > 2000);
     assert!(made.iter().any(|&length| length > 50_000));
+}
+
+/// Every input for `read`, in its order, and between them some that are too long.
+#[test]
+fn every_input_for_read_in_parts() {
+    let mut all = PieceInputs::new(1);
+    for (i, bytes) in Inputs::new(1).take(5000).enumerate() {
+        if i > 0 && i % BETWEEN == 0 {
+            assert!(all.next().unwrap().len() > 2048);
+        }
+        assert_eq!(all.next(), Some(bytes));
+    }
+}
+
+/// Inputs that are too long by one and by many: in front what would be accepted, each number but 8, and
+/// a root that the bytes after it end; and as many bytes as wrap to those of an accepted front.
+#[test]
+fn longer_inputs() {
+    let mut numbers = [0; 9];
+    let mut lengths = Vec::new();
+    let mut wraps = 0;
+    let generated = PieceInputs::new(1).take(60_000);
+    for bytes in generated.filter(|bytes| bytes.len() > 2048) {
+        let wrapped = bytes.len() % 65_536;
+        wraps += (bytes.len() > 65_535 && read::model(&bytes[..wrapped]).number == 0) as usize;
+        lengths.push(bytes.len());
+        // the front without what fills it up to its length
+        let last = bytes[bytes.len() - 1];
+        let filler = bytes.iter().rev().take_while(|&&byte| byte == last);
+        let front = bytes.len() - filler.count();
+        let said = [front, front + 1].map(|stop| read::model(&bytes[..stop.min(2048)]).number);
+        said.iter()
+            .for_each(|&number| numbers[number as usize] += 1);
+    }
+    assert!(numbers[..8].iter().all(|&times| times > 0), "{numbers:?}");
+    assert!(wraps > 10, "{wraps}");
+    for length in [2049, 2050, 65_535, 65_536, 65_537] {
+        assert!(lengths.contains(&length), "no input of {length} bytes");
+    }
+    assert!(always_pieces().iter().any(|bytes| bytes.len() == 2049));
+}
+
+/// The parts of each cutting are the input again; among them are empty ones, single bytes and whole inputs.
+#[test]
+fn every_way_to_cut() {
+    let mut cutter = Cutter::new(1, 64);
+    let (mut empty, mut single, mut parts) = (0, 0, 0);
+    for bytes in PieceInputs::new(1).take(20_000) {
+        let length = bytes.len();
+        let fed = cutter.cut(bytes);
+        for cuts in &fed.cuttings {
+            let own = cuts.parts(&fed.bytes);
+            assert!(own.concat() == fed.bytes);
+            empty += own.iter().filter(|part| part.is_empty()).count();
+            single += own.iter().filter(|part| part.len() == 1).count();
+            parts += own.len();
+        }
+        let every_place = (0..=length).all(|place| fed.cuttings.contains(&Cuts::InTwo(place)));
+        assert_eq!(every_place, length <= 64, "{length}");
+    }
+    assert!(
+        empty > 20_000 && single > 100_000,
+        "{empty} {single} {parts}"
+    );
+    assert!(cutter.into_bytes > 5000, "{}", cutter.into_bytes);
+    assert_eq!(cutter.in_two.len(), LAST_PLACE + 1);
+    // longer inputs in turn: there is no place that only chance could cut
+    let cut = cutter.in_two.iter().filter(|&&times| times > 0).count();
+    assert!(cut > 1000, "{cut}");
+    let fed = cutter.cut_everywhere(vec![0; 2049]);
+    assert!((0..=2049).all(|place| fed.cuttings.contains(&Cuts::InTwo(place))));
 }

@@ -6,8 +6,9 @@ use compare::cases::table::{kind, m4_table, Node, RecordTable, Table};
 use compare::cases::tables::records::RecordInputs;
 use compare::cases::tables::{EncodingInputs, WriteInputs};
 use compare::cases::{function, leb128, long, nested, record};
-use compare::question::{Pair, Question, Records, Single};
-use compare::{child, fill, join, name, read, sheet, table, write, write_records};
+use compare::question::{feed, Cuts, Fed, Pair, Question, Records, Single};
+use compare::stack::worst_for_read;
+use compare::{child, fill, join, name, pieces, read, sheet, table, write, write_records};
 use compare::{MakesOfRecords, Outcome};
 use shiulbart::NodeRecord;
 
@@ -78,6 +79,26 @@ fn tables_agree(bytes: &[u8]) {
     let right = single.right();
     assert!(single.ask(table::proved) == right, "proved, on {single}");
     assert!(single.ask(table::fast) == right, "fast, on {single}");
+}
+
+/// An input that is cut in these ways, with a part after the finish. The finish of the model, too, must say
+/// what `right` tells of it.
+fn pieces_agree(bytes: &[u8], cuttings: &[Cuts], after: &[u8]) {
+    let fed = Fed::new(bytes.to_vec(), cuttings.to_vec(), after.to_vec());
+    let right = fed.right();
+    assert!(fed.ask(pieces::proved) == right, "proved, on {fed}");
+    assert!(fed.ask(pieces::fast::<0>) == right, "fast, on {fed}");
+    assert!(fed.ask(pieces::by_read) == right, "read, on {fed}");
+    let model = feed::<model::pieces::Pieces>(&fed);
+    assert!(model == right, "model, on {fed}");
+}
+
+/// Every set of the places of an input of so many bytes, in which each place is at most once.
+fn all_cuts(length: usize) -> Vec<Cuts> {
+    let set = |set: usize| (0..=length).filter(|place| set >> place & 1 == 1).collect();
+    (0..2 << length)
+        .map(|number| Cuts::At(set(number)))
+        .collect()
 }
 
 /// The first parts, and numbers that are far too large.
@@ -641,6 +662,95 @@ fn twelve_is_the_models_own() {
         for (lent, &room) in single.right().0.iter().zip(&single.rooms) {
             let own = says(model::table::to_table(&single.bytes, room));
             assert_eq!(lent.outcome, own);
+        }
+    }
+}
+
+#[test]
+fn every_cut_of_every_input_of_up_to_two_bytes() {
+    let after = [0x20];
+    pieces_agree(&[], &[vec![], vec![0], vec![0, 0]].map(Cuts::At), &after);
+    pieces_agree(&[], &[Cuts::Each(1)], &after);
+    for first in 0..=255 {
+        pieces_agree(&[first], &all_cuts(1), &after);
+        for second in 0..=255 {
+            pieces_agree(&[first, second], &all_cuts(2), &after);
+        }
+    }
+}
+
+/// Payloads of up to two bytes, and those whose size says that they are longer or shorter.
+#[test]
+fn every_cut_of_every_payload_of_up_to_two_bytes() {
+    for first in 64..=69 {
+        for size in 0..=3 {
+            pieces_agree(&[first, size, 0], &all_cuts(3), &[]);
+            for a in 0..=255 {
+                pieces_agree(&[first, size, 0, a], &all_cuts(4), &[a]);
+            }
+        }
+        let in_two: Vec<Cuts> = (0..=5).map(Cuts::InTwo).collect();
+        for (a, b) in (0..=255).flat_map(|a| (0..=255).map(move |b| (a, b))) {
+            pieces_agree(&[first, 2, 0, a, b], &in_two, &[b]);
+        }
+    }
+}
+
+/// Payloads of four bytes that mean something in a list, or in a list of lists, cut in every way.
+#[test]
+fn every_cut_of_every_list_of_telling_bytes() {
+    const TELLING: [u8; 7] = [0, 1, 2, 0x20, 0x40, 0x60, 0xC3];
+    let cuts = all_cuts(7);
+    for first in 64..=69 {
+        for number in 0..TELLING.len().pow(4) {
+            let byte = |power| TELLING[number / TELLING.len().pow(power) % TELLING.len()];
+            let bytes = [first, 4, 0, byte(0), byte(1), byte(2), byte(3)];
+            pieces_agree(&bytes, &cuts, &[byte(0)]);
+        }
+    }
+}
+
+/// The bytes on both sides of each border that UTF-8 has, cut at each of them, and into bytes.
+#[test]
+fn every_cut_of_texts_of_three_telling_bytes() {
+    const TELLING: [u8; 18] = [
+        0x00, 0x7F, 0x80, 0x8F, 0x90, 0x9F, 0xA0, 0xBF, 0xC1, 0xC2, 0xDF, 0xE0, 0xED, 0xEF, 0xF0,
+        0xF3, 0xF4, 0xF5,
+    ];
+    let mut cuts: Vec<Cuts> = (4..=9).map(Cuts::InTwo).collect();
+    cuts.push(Cuts::Each(1));
+    for number in 0..TELLING.len().pow(3) {
+        let byte = |power| TELLING[number / TELLING.len().pow(power) % TELLING.len()];
+        let [a, b, c] = [byte(0), byte(1), byte(2)];
+        for d in [0x41, 0x80, 0xC2] {
+            // the text is complete, ends early, and never ends
+            pieces_agree(&[0x44, 6, 0, 1, 4, a, b, c, d], &cuts, &[0x80]);
+            pieces_agree(&[0x44, 7, 0, 2, 3, a, b, c, 0, d], &cuts, &[0x80]);
+            pieces_agree(&[0x44, 9, 0, 1, 7, a, b, c, d], &cuts, &[0x80]);
+        }
+    }
+}
+
+/// Each worst input, and what is left of it when it is cut off at each place, fed in one part and byte by
+/// byte: every state on the way is the same, and is finished.
+#[test]
+fn the_worst_inputs_up_to_every_place() {
+    for (_, bytes) in worst_for_read() {
+        let mut reader = shiulbart::Pieces::new();
+        for stop in 0..=bytes.len() {
+            let right = pieces::model(&[&bytes[..stop]]);
+            let mut whole = shiulbart::Pieces::new();
+            whole.feed(&bytes[..stop]);
+            assert!(whole == reader, "cut off at {stop}: {bytes:02X?}");
+            assert_eq!(whole.count(), stop);
+            let said = match whole.finish() {
+                Ok(accepted) => Outcome::answer(accepted.length, accepted.depth as usize),
+                Err(refusal) => Outcome::refusal(refusal.number(), refusal.place()),
+            };
+            assert_eq!(said, right, "cut off at {stop}: {bytes:02X?}");
+            if let Some(byte) = bytes.get(stop) {
+                reader.feed(&[*byte]);
+            }
         }
     }
 }

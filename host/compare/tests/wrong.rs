@@ -5,10 +5,10 @@ use compare::cases::table::{
     chain, doubled, kind, largest, letters, wrapping, Node, RecordTable, Table,
 };
 use compare::cases::{function, long, nested, record, symbol};
-use compare::question::{Pair, Question, Records, Shrink, Single};
+use compare::question::{Cuts, Fed, Pair, Question, Records, Shrink, Single};
 use compare::read::{self, WRONG};
 use compare::shrink::{shrink, shrink_sheet, shrink_table};
-use compare::{child, fill, hex, join, name, sheet, table, write, write_records};
+use compare::{child, fill, hex, join, name, pieces, sheet, table, write, write_records};
 use compare::{Lends, Makes, Whole, WholeOf, WrongLends, WrongMakes};
 use shiulbart::NodeRecord;
 
@@ -1074,4 +1074,127 @@ fn a_difference_in_a_table_is_made_small() {
     );
     let small = smallest(first, table::whole, of_bytes, &outer);
     assert!(small.bytes.len() <= 13, "{small}");
+}
+
+/// The parts, and the part that comes after the finish.
+fn fed(parts: &[&[u8]], after: &[u8]) -> Fed {
+    let mut places = Vec::new();
+    for part in &parts[..parts.len() - 1] {
+        places.push(places.last().unwrap_or(&0) + part.len());
+    }
+    Fed::new(parts.concat(), vec![Cuts::At(places)], after.to_vec())
+}
+
+#[test]
+fn each_of_pieces_differs_on_a_small_input() {
+    let int = || fed(&[&[0x20]], &[]);
+    let cut = |bytes: &[u8], place: usize| fed(&[&bytes[..place], &bytes[place..]], &[]);
+    let one_more = [symbol(&[b'a'; 2042]), vec![0]].concat();
+    let ints = vec![0x20; 65_537];
+    let character = symbol("é".as_bytes());
+    let overlong = symbol(&[0xE0, 0x80, 0x80]);
+    let after_array = [0x41, 2, 0, 0x60, 0x20];
+    let empty_record = arrays(15, &[0x42, 1, 0, 0]);
+    // a state that other cuts do not lead to, or that something changes which must not
+    let other = |outcome: &str| format!("{outcome} (its state: in one part it is another)");
+    let changed = |outcome: &str, what: &str| format!("{outcome} (its state: {what} changes it)");
+    let later = "ok 1 1, again ok 1 1, after a part no 3 1";
+    let anew = "ok 1 1, again no 1 0, after a part no 1 0";
+    // in the order of WRONG: parts, what is right, what the wrong model says
+    let told_apart: [(Fed, &str, String); pieces::WRONG.len()] = [
+        (int(), "ok 1 1", "no 1 0".into()),
+        (fed(&[&[0x60]], &[]), "ok 1 2", "ok 1 1".into()),
+        (cut(&[0x40, 5, 0, 0], 3), "no 1 0", "no 1 4".into()),
+        (cut(&[0x40, 5, 0, 0x40], 3), "no 1 0", "no 1 3".into()),
+        (cut(&ints[..2049], 1), "no 8 2048", "no 3 1".into()),
+        (cut(&[0x40, 5, 0, 0xFF], 3), "no 1 0", "no 2 3".into()),
+        (
+            fed(&[&[0x20]], &[0x20]),
+            "ok 1 1",
+            changed(later, "a part after the finish"),
+        ),
+        (
+            cut(&symbol(&[b'a'; 2043]), 2048),
+            "no 8 2048",
+            "ok 2049 1".into(),
+        ),
+        (cut(&one_more, 2048), "no 8 2048", "ok 2048 1".into()),
+        (cut(&ints, 1), "no 8 2048", "ok 1 1".into()),
+        (cut(&[0x45, 2, 0, 0x20, 0], 2), "ok 5 1", other("no 3 0")),
+        (cut(&symbol(&[b'a'; 128]), 5), "ok 134 1", other("no 3 0")),
+        (cut(&character, 6), "ok 7 1", other("no 5 5")),
+        (cut(&overlong, 6), "no 5 5", other("ok 8 1")),
+        (cut(&after_array, 4), "ok 5 3", other("ok 5 2")),
+        (cut(&after_array, 4), "ok 5 3", other("no 6 0")),
+        (cut(&empty_record, 30), "ok 49 16", "no 7 45".into()),
+        (cut(&[0x40, 1, 0, 0xFF], 2), "no 2 3", other("no 2 1")),
+        (cut(&after_array, 4), "ok 5 3", "ok 1 3".into()),
+        (cut(&after_array, 4), "ok 5 3", other("ok 1 1")),
+        (
+            fed(&[&[], &[0x20]], &[]),
+            "ok 1 1",
+            changed("no 1 0", "an empty part"),
+        ),
+        (
+            fed(&[&[0x20], &[]], &[]),
+            "ok 1 1",
+            changed("no 3 1", "an empty part"),
+        ),
+        (int(), "ok 1 1", anew.into()),
+        (cut(&[0x40, 1, 0, 0], 3), "ok 4 2", other("ok 4 2")),
+        (
+            fed(&[&[0x20], &[]], &[]),
+            "ok 1 1",
+            changed("ok 1 1", "an empty part"),
+        ),
+        (
+            fed(&[&[0x20]], &[0]),
+            "ok 1 1",
+            changed("ok 1 1", "a part after the finish"),
+        ),
+        (int(), "ok 1 1", changed("ok 1 1", "the second finish")),
+    ];
+    for ((fed, right, wrong), (fault, model)) in told_apart.iter().zip(pieces::WRONG) {
+        assert_eq!(fed.right().to_string(), *right, "{fault}");
+        assert_eq!(fed.ask(pieces::proved).to_string(), *right, "{fault}");
+        assert_eq!(fed.ask(pieces::by_read).to_string(), *right, "{fault}");
+        assert_eq!(fed.ask(pieces::fast::<0>).to_string(), *right, "{fault}");
+        assert_eq!(fed.ask(model).to_string(), *wrong, "{fault}");
+    }
+}
+
+#[test]
+fn a_difference_in_parts_is_made_small() {
+    let smallest = |fault: &str, bytes: &[u8], cuttings: Vec<Cuts>, after: &[u8]| {
+        let mut all = pieces::WRONG.into_iter();
+        let (_, wrong) = all.find(|(name, _)| *name == fault).unwrap();
+        let differs = |fed: &Fed| fed.ask(wrong) != fed.right();
+        let fed = Fed::new(bytes.to_vec(), cuttings, after.to_vec());
+        assert!(differs(&fed));
+        fed.smallest(&differs)
+    };
+    // a character in a wide Record, cut in two, among other cuts
+    let fields = [&[0, 1].repeat(500)[..], &[2, 0xC3, 0xA9, 0x20]].concat();
+    let wide = record(501, &fields);
+    let cut = Cuts::At(vec![7, 100, 100, wide.len() - 2, wide.len()]);
+    let cuttings = vec![Cuts::At(vec![]), Cuts::InTwo(3), cut];
+    let small = smallest("refuses a character that is cut", &wide, cuttings, &[0; 70]);
+    assert!(small.bytes.len() <= 9, "{small}");
+    assert_eq!(small.cuttings.len(), 1);
+    assert_eq!(small.cuttings[0].parts(&small.bytes).len(), 2, "{small}");
+    assert!(small.after.is_empty(), "{small}");
+    // too long as a whole only
+    let cuttings = vec![Cuts::Each(1000), Cuts::Each(1)];
+    let small = smallest("gives 8 by single parts", &[0x20; 4000], cuttings, &[]);
+    assert_eq!(small.bytes.len(), 2049);
+    let words = small.to_string();
+    assert_eq!(words, "00x1000 / 00x1000 / 00x49");
+    let cuttings = vec![Cuts::InTwo(0)];
+    let small = smallest("wraps the count at 65,536", &[0x20; 66_000], cuttings, &[]);
+    assert_eq!(small.bytes.len(), 65_536);
+    // a part after the finish
+    let cuttings = vec![Cuts::Each(3)];
+    let fault = "counts a part after the finish";
+    let small = smallest(fault, &wide, cuttings, &[0xFF; 3000]);
+    assert_eq!(small.to_string(), "(no bytes) | 20 after the finish");
 }

@@ -1,12 +1,13 @@
-//! A reference model of shapes, sheets and fillings, written from 01-scope.md and from the base
-//! part of DECISIONS-GIVEN.md, and from nothing else. Lines that start with `>` in comments, and
-//! words in double quotes, are the documents' own.
+//! A reference model of shapes, sheets and fillings, written from 01-scope.md, from the base part of
+//! DECISIONS-GIVEN.md and from W-203 of 02-change-requests.md (`pieces`), and from nothing else.
+//! Lines that start with `>` in comments, and words in double quotes, are the documents' own.
 //!
 //! The program `card` (src/bin/card.rs) runs the bench card's cases over it.
 #![forbid(unsafe_code)]
 
 pub mod limits;
 pub mod parts;
+pub mod pieces;
 pub mod read;
 pub mod shape;
 pub mod sheet;

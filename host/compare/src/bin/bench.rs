@@ -6,16 +6,55 @@ use compare::cases::table::{
     chain, doubled, kind, largest, letters, m4_table, records, Node, RecordTable, Table,
 };
 use compare::cases::{function, leb128, long, nested, record, symbol, typical};
-use compare::question::{Pair, Question, Records, Single};
+use compare::question::{Cuts, Fed, Pair, Question, Records, Single};
 use compare::random::Random;
 use compare::stack::{
-    peak, worst_for_fill, worst_for_join, worst_for_parts, worst_for_read, worst_for_records,
-    worst_for_sheet, worst_for_table, worst_for_write, worst_ks, Worst, LONGEST,
+    peak, worst_for_fill, worst_for_join, worst_for_parts, worst_for_pieces, worst_for_read,
+    worst_for_records, worst_for_sheet, worst_for_table, worst_for_write, worst_ks, Worst, LONGEST,
 };
-use compare::{child, fast, fill, join, name, read, sheet, table, write, write_records, Parts};
+use compare::{
+    child, fast, fill, join, name, pieces, read, sheet, table, write, write_records, Parts,
+};
+use shiulbart::Pieces;
 use std::fmt::Display;
 use std::hint::black_box;
+use std::process::ExitCode;
 use std::time::{Duration, Instant};
+
+const USAGE: &str = "usage: bench [TABLE..]
+  without a word all tables, else the times of these calls: read, pieces, child, name, sheet, fill,
+  join, write, write_records, table; text is the time of a text alone, stack the peak stack of all";
+
+/// The words for the tables.
+const TABLES: [&str; 12] = [
+    "read",
+    "pieces",
+    "child",
+    "name",
+    "sheet",
+    "fill",
+    "join",
+    "write",
+    "write_records",
+    "table",
+    "text",
+    "stack",
+];
+
+/// The tables that are wanted: all, if none is named.
+struct Wanted(Vec<String>);
+
+impl Wanted {
+    fn named() -> Option<Wanted> {
+        let words: Vec<String> = std::env::args().skip(1).collect();
+        let known = |word: &String| TABLES.contains(&word.as_str());
+        words.iter().all(known).then_some(Wanted(words))
+    }
+
+    fn has(&self, table: &str) -> bool {
+        self.0.is_empty() || self.0.iter().any(|word| word == table)
+    }
+}
 
 /// Rounds of a case. The least time of each program counts, so that what else the machine does
 /// drops out. A case that takes long has fewer.
@@ -618,6 +657,44 @@ fn rust_read(input: &Input, _: &mut [u8]) -> bool {
     black_box(fast::read::<0>(&input.first)).is_ok()
 }
 
+/// Parts of so many bytes are the whole input.
+const ALL: usize = usize::MAX;
+
+/// The start, the parts of so many bytes and the finish.
+#[inline(never)]
+fn proved_pieces<const SIZE: usize>(input: &Input, _: &mut [u8]) -> bool {
+    let mut reader = Pieces::new();
+    for part in input.first.chunks(SIZE) {
+        reader.feed(part);
+    }
+    black_box(reader.finish()).is_ok()
+}
+
+#[inline(never)]
+fn rust_pieces<const SIZE: usize>(input: &Input, _: &mut [u8]) -> bool {
+    let mut reader = fast::pieces::Reader::<0>::start();
+    for part in input.first.chunks(SIZE) {
+        reader.part(part);
+    }
+    black_box(reader.finish()).is_ok()
+}
+
+/// The start, as many empty parts as the input has bytes, and the finish.
+#[inline(never)]
+fn empty_pieces(input: &Input, _: &mut [u8]) -> bool {
+    let mut reader = Pieces::new();
+    for _ in &input.first {
+        reader.feed(black_box(&[]));
+    }
+    black_box(reader.finish()).is_ok()
+}
+
+/// The start and the finish.
+#[inline(never)]
+fn no_pieces(_: &Input, _: &mut [u8]) -> bool {
+    black_box(black_box(Pieces::new()).finish()).is_ok()
+}
+
 #[inline(never)]
 fn proved_child(input: &Input, _: &mut [u8]) -> bool {
     black_box(shiulbart::child(&input.first, input.k)).is_ok()
@@ -736,12 +813,16 @@ const RUST: &str = "Rust";
 /// A table of a call's times, after a look that the programs agree. Each program but the proved call, the
 /// first, has its ratio.
 fn times(
+    wanted: &Wanted,
     call: &str,
     proved: Program,
     others: &[(&str, Program)],
     cases: Vec<Case>,
     agree: impl Fn(&Input) -> bool,
 ) {
+    if !wanted.has(call) {
+        return;
+    }
     let column = |(name, _): &(&str, Program)| format!(" {name}: ns a call | a byte | ratio |");
     let columns: String = others.iter().map(column).collect();
     println!("\n| `{call}` | bytes | proved: ns a call | a byte |{columns}");
@@ -767,6 +848,73 @@ fn times(
         let other = |ns: &f64| format!(" {} | {:.2} |", each(*ns), proved / ns);
         let others: String = taken[1..].iter().map(other).collect();
         println!("| {} | {bytes} | {} |{others}", case.name, each(proved));
+    }
+}
+
+/// The sizes of the parts that the piece reader is measured with.
+const SIZES: [(&str, usize, Program); 4] = [
+    ("in one part", ALL, proved_pieces::<ALL>),
+    ("parts of 256", 256, proved_pieces::<256>),
+    ("parts of 64", 64, proved_pieces::<64>),
+    ("parts of 1", 1, proved_pieces::<1>),
+];
+
+/// A table of the times of the piece reader beside `read`, on the same inputs, after a look that both
+/// agree; and one of its single calls.
+fn times_of_pieces() {
+    let columns = SIZES.map(|(size, ..)| format!(" {size}: ns | ratio |"));
+    println!(
+        "\n| `pieces`: start, parts and finish | bytes | `read`: ns a call |{} a part of 1: ns |",
+        columns.concat()
+    );
+    println!("|---|---:|---:|{}---:|", "---:|---:|".repeat(SIZES.len()));
+    let programs: Vec<Program> = std::iter::once(proved_read as Program)
+        .chain(SIZES.map(|(.., program)| program))
+        .collect();
+    for case in cases_for_read() {
+        for input in &case.inputs {
+            let cuttings = SIZES.map(|(_, size, _)| Cuts::Each(size)).to_vec();
+            let fed = Fed::new(input.first.clone(), cuttings, vec![]);
+            let agree = fed.ask(pieces::proved) == fed.ask(pieces::by_read);
+            assert!(agree, "pieces: {}", case.name);
+        }
+        let bytes: usize = case.inputs.iter().map(Input::bytes).sum();
+        let taken = least(&programs, &case.inputs);
+        let inputs = case.inputs.len() as f64;
+        let read = taken[0];
+        let column = |ns: &f64| format!(" {:.1} | {:.2} |", ns / inputs, ns / read);
+        let columns: String = taken[1..].iter().map(column).collect();
+        let (read, part) = (read / inputs, taken[SIZES.len()] / bytes as f64);
+        println!(
+            "| {} | {bytes} | {read:.1} |{columns} {part:.1} |",
+            case.name
+        );
+    }
+    println!("\n| a single call of `pieces` | ns |");
+    println!("|---|---:|");
+    let single = [
+        ("in a wide list", function(2040, &[0x05; 2040], &[0x20])),
+        (
+            "in heads",
+            function(500, &[0x40, 1, 0, 0].repeat(500), &[0x20]),
+        ),
+        ("in a text", symbol(&[b'a'; 2042])),
+        ("after a fault", vec![0xFF; 2048]),
+    ];
+    for (i, (place, bytes)) in single.into_iter().enumerate() {
+        let (case, bytes) = (one("", &bytes, 0), bytes.len() as f64);
+        let programs = [no_pieces, empty_pieces, proved_pieces::<1>];
+        let [none, empty, parts] = least(&programs, &case.inputs)[..] else {
+            unreachable!("each program has its time");
+        };
+        if i == 0 {
+            println!("| the start and the finish | {none:.1} |");
+            println!("| a part of no bytes | {:.1} |", (empty - none) / bytes);
+        }
+        println!(
+            "| a part of one byte, {place} | {:.1} |",
+            (parts - none) / bytes
+        );
     }
 }
 
@@ -867,20 +1015,29 @@ fn told_by_processor() -> String {
     String::from_utf8_lossy(&name).into_owned()
 }
 
-fn main() {
+fn main() -> ExitCode {
+    let Some(wanted) = Wanted::named() else {
+        eprintln!("{USAGE}");
+        return ExitCode::from(2);
+    };
     let (name, emulator) = processor();
     println!("Processor: {name}.");
     if emulator {
         println!("It runs under an emulator: the ratios are an estimate.");
     }
     times(
+        &wanted,
         "read",
         proved_read,
         &[(RUST, rust_read)],
         cases_for_read(),
         |input| read::proved(&input.first) == read::fast::<0>(&input.first),
     );
+    if wanted.has("pieces") {
+        times_of_pieces();
+    }
     times(
+        &wanted,
         "child",
         proved_child,
         &[(RUST, rust_child)],
@@ -888,6 +1045,7 @@ fn main() {
         |input| child::proved(&input.first, input.k) == child::fast(&input.first, input.k),
     );
     times(
+        &wanted,
         "name",
         proved_name,
         &[(RUST, rust_name)],
@@ -895,6 +1053,7 @@ fn main() {
         |input| name::proved(&input.first, input.k) == name::fast(&input.first, input.k),
     );
     times(
+        &wanted,
         "sheet",
         proved_sheet,
         &[(RUST, rust_sheet)],
@@ -902,6 +1061,7 @@ fn main() {
         |input| sheet::proved(&input.first) == sheet::fast::<0>(&input.first),
     );
     times(
+        &wanted,
         "fill",
         proved_fill,
         &[(RUST, rust_fill)],
@@ -912,6 +1072,7 @@ fn main() {
         },
     );
     times(
+        &wanted,
         "join",
         proved_join,
         &[(RUST, rust_join)],
@@ -922,6 +1083,7 @@ fn main() {
         },
     );
     times(
+        &wanted,
         "write",
         proved_write,
         &[(RUST, rust_write)],
@@ -932,6 +1094,7 @@ fn main() {
         },
     );
     times(
+        &wanted,
         "write_records",
         proved_records,
         &[("`write`", proved_write), (RUST, rust_records)],
@@ -944,6 +1107,7 @@ fn main() {
         },
     );
     times(
+        &wanted,
         "table",
         proved_table,
         &[(RUST, rust_table)],
@@ -953,6 +1117,17 @@ fn main() {
             single.ask(table::proved) == single.ask(table::fast)
         },
     );
+    if wanted.has("text") {
+        time_of_text();
+    }
+    if wanted.has("stack") {
+        all_stacks();
+    }
+    ExitCode::SUCCESS
+}
+
+/// A table of the time that a text takes by itself.
+fn time_of_text() {
     println!("\n| the text alone, `std::str::from_utf8` | bytes | ns a byte |");
     println!("|---|---:|---:|");
     for (name, text) in [
@@ -965,7 +1140,21 @@ fn main() {
         let bytes = text.len();
         println!("| {name} | {bytes} | {:.3} |", taken[0] / bytes as f64);
     }
+}
+
+/// The tables of the peak stack.
+fn all_stacks() {
     stack("read", worst_for_read(), [proved_read, rust_read]);
+    stack(
+        "pieces, in one part",
+        worst_for_pieces(),
+        [proved_pieces::<ALL>, rust_pieces::<ALL>],
+    );
+    stack(
+        "pieces, in parts of one byte",
+        worst_for_pieces(),
+        [proved_pieces::<1>, rust_pieces::<1>],
+    );
     stack_of_parts("child", child::proved, [proved_child, rust_child]);
     stack_of_parts("name", name::proved, [proved_name, rust_name]);
     stack("sheet", worst_for_sheet(), [proved_sheet, rust_sheet]);

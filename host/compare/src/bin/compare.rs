@@ -1,6 +1,7 @@
 //! Compares the proved calls with the independent model, case by case. See README.md.
 
 use compare::cases::fills::{Chains, FillInputs, JoinInputs};
+use compare::cases::pieces::{always_pieces, Cutter, PieceInputs, BETWEEN, LAST_PLACE};
 use compare::cases::sheets::SheetInputs;
 use compare::cases::table::RecordTable;
 use compare::cases::tables::records::{always_records, RecordInputs};
@@ -8,14 +9,15 @@ use compare::cases::tables::{always_write, EncodingInputs, WriteInputs};
 use compare::cases::{any_k, Inputs, PartInputs};
 use compare::fast::sheet::{check, Rule};
 use compare::fast::write as fast_write;
-use compare::question::{AllLent, Bytes, Pair, Part, Question, Records, Single};
+use compare::question::{AllLent, Bytes, Fed, Pair, Part, Question, Records, Single};
 use compare::random::Random;
 use compare::read::{self, WRONG};
 use compare::shrink::{shrink, shrink_sheet, shrink_table};
 use compare::{
-    cases, child, fill, hex, join, name, sheet, table, write, write_records, Outcome, Parts, Whole,
-    WholeOf,
+    cases, child, fill, hex, join, name, pieces, sheet, table, write, write_records, Outcome,
+    Parts, Whole, WholeOf,
 };
+use std::cell::RefCell;
 use std::process::ExitCode;
 use std::time::{Duration, Instant};
 
@@ -34,6 +36,10 @@ const PAIR_CASES: usize = 20_000;
 const TABLE_CASES: usize = 20_000;
 const CHAINS: usize = 4_000;
 
+/// Inputs of so many bytes are fed to the piece reader cut in two at every place: in the gate, and else.
+const EVERY_PLACE_IN_GATE: usize = 64;
+const EVERY_PLACE: usize = 256;
+
 /// The numbers of the wrong models: those of `child` follow those of `read`, and so on.
 const WRONG_CHILD: usize = WRONG.len();
 const WRONG_NAME: usize = WRONG_CHILD + child::WRONG.len();
@@ -43,7 +49,8 @@ const WRONG_JOIN: usize = WRONG_FILL + fill::WRONG.len();
 const WRONG_WRITE: usize = WRONG_JOIN + join::WRONG.len();
 const WRONG_TABLE: usize = WRONG_WRITE + write::WRONG.len();
 const WRONG_RECORDS: usize = WRONG_TABLE + table::WRONG.len();
-const ALL_WRONG: usize = WRONG_RECORDS + write_records::WRONG.len();
+const WRONG_PIECES: usize = WRONG_RECORDS + write_records::WRONG.len();
+const ALL_WRONG: usize = WRONG_PIECES + pieces::WRONG.len();
 
 /// The numbers that a refusal of each call can carry.
 const READ_NUMBERS: [usize; 8] = [1, 2, 3, 4, 5, 6, 7, 8];
@@ -673,6 +680,65 @@ fn compare_records(options: &Options, count: &mut Count) {
     compare(&call, fixed, generated, options, count);
 }
 
+/// Compares the piece reader on every input of `read`, and on longer ones, each cut in many ways; with
+/// `read`, too.
+fn compare_pieces(options: &Options, count: &mut Count) {
+    let own = always_pieces();
+    let call = Call::<Fed> {
+        name: "pieces",
+        proved: pieces::proved,
+        others: &[
+            ("fast", pieces::fast::<0>),
+            ("the proved read, of all parts,", pieces::by_read),
+        ],
+        model: Fed::right,
+        wrong: &pieces::WRONG,
+        wrong_before: WRONG_PIECES,
+        // all that are generated for `read`, and those that come between them
+        gate: READ_CASES + READ_CASES / BETWEEN + own.len(),
+        numbers: &READ_NUMBERS,
+        smallest: Fed::smallest,
+        head: ["depth", "answers"],
+        sorts: (1..=16).map(|depth: usize| depth.to_string()).collect(),
+        sort: |fed, _| (fed.whole.extra as usize).checked_sub(1),
+        every_sort: false,
+    };
+    let every_place = match options.gate {
+        true => EVERY_PLACE_IN_GATE,
+        false => EVERY_PLACE,
+    };
+    let fixed = cases::always().into_iter().chain(own);
+    let mut cutter = Cutter::new(options.seed, every_place);
+    let fixed = fixed.map(|bytes| cutter.cut_everywhere(bytes)).collect();
+    // only the generated ones count
+    let cutter = RefCell::new(Cutter::new(options.seed, every_place));
+    let generated = PieceInputs::new(options.seed).map(|bytes| cutter.borrow_mut().cut(bytes));
+    compare(&call, fixed, generated, options, count);
+    print_cuts(&cutter.into_inner(), call.gate, options, count);
+}
+
+/// How the generated inputs were cut. In the gate's cases, or more, each place must have been.
+fn print_cuts(cutter: &Cutter, gate: usize, options: &Options, count: &mut Count) {
+    let Cutter {
+        in_two,
+        cuttings,
+        into_bytes,
+        ..
+    } = cutter;
+    println!("  {cuttings} times an input was cut, {into_bytes} of them into bytes");
+    let (place, times) = in_two
+        .iter()
+        .enumerate()
+        .min_by_key(|least| least.1)
+        .unwrap();
+    println!(
+        "  cut in two at each place from 0 to {LAST_PLACE}: least often at {place}, {times} times"
+    );
+    if options.gate || options.cases >= gate {
+        count.of(*times > 0);
+    }
+}
+
 /// What a proved call says that makes a `Vec`.
 type Told = Result<Vec<u8>, shiulbart::Refusal>;
 
@@ -810,6 +876,7 @@ fn main() -> ExitCode {
     compare_write(&options, &mut count);
     compare_table(&options, &mut count);
     compare_records(&options, &mut count);
+    compare_pieces(&options, &mut count);
     compare_chains(&options, &mut count);
     compare_tables(&options, &mut count);
     println!("{} passed, {} failed", count.passed, count.failed);

@@ -2,14 +2,16 @@
 //! a board's whole job does.
 
 use compare::cases::table::RecordTable;
+use compare::question::Reader;
 use compare::stack::{
-    peak, worst_for_fill, worst_for_join, worst_for_parts, worst_for_read, worst_for_records,
-    worst_for_sheet, worst_for_table, worst_for_write, worst_ks, Worst, BOARD, BUFFERS_OF_A,
-    BUFFERS_OF_B, LONGEST, MOST_FOR_ANOTHER, MOST_FOR_READ, MOST_FOR_RECORDS, MOST_FOR_TABLES,
-    SHEET,
+    peak, worst_for_fill, worst_for_join, worst_for_parts, worst_for_pieces, worst_for_read,
+    worst_for_records, worst_for_sheet, worst_for_table, worst_for_write, worst_ks, Worst, BOARD,
+    BUFFERS_OF_A, BUFFERS_OF_B, LONGEST, MOST_FOR_ANOTHER, MOST_FOR_PIECES, MOST_FOR_READ,
+    MOST_FOR_RECORDS, MOST_FOR_TABLES, SHEET,
 };
 use compare::{child, fill, join, name, read, sheet, table, write, write_records};
 use compare::{Lends, Outcome, Parts};
+use shiulbart::Pieces;
 use std::hint::black_box;
 use std::process::ExitCode;
 
@@ -79,6 +81,54 @@ fn single<T: Sync>(
     }
 }
 
+/// The three calls of the piece reader: the parts of each input, one call after the other, as a caller makes
+/// them whose state goes in and out by value, and the finish after them.
+fn pieces(count: &mut Count) {
+    let mut of = |call: &str, taken: usize, input: &str, mut reader: Pieces| {
+        let outcome = Reader::finish(&mut reader);
+        count.of(call, taken, MOST_FOR_PIECES, input, outcome);
+    };
+    let fed = |bytes: &[u8]| {
+        let mut reader = Pieces::new();
+        reader.feed(bytes);
+        reader
+    };
+    let taken = peak(|_| {
+        black_box(&Pieces::new());
+    });
+    of("pieces start", taken, "no part", Pieces::new());
+    for (input, bytes) in worst_for_pieces() {
+        let half = bytes.len() / 2;
+        let ways = [
+            ("in one part", 0, vec![&bytes[..]]),
+            ("the second half", half, vec![&bytes[half..]]),
+            ("in parts of one byte", 0, bytes.chunks(1).collect()),
+        ];
+        for (way, from, parts) in ways {
+            if parts.is_empty() {
+                continue;
+            }
+            let before = fed(&bytes[..from]);
+            let taken = peak(|_| {
+                let mut reader = black_box(&before).clone();
+                for part in black_box(&parts) {
+                    reader.feed(part);
+                }
+                black_box(&reader);
+            });
+            let way = format!("{input}, {way}");
+            of("pieces part", taken, &way, fed(&bytes));
+        }
+        let before = fed(&bytes);
+        let taken = peak(|_| {
+            let mut reader = black_box(&before).clone();
+            let _ = black_box(reader.finish());
+            black_box(&reader);
+        });
+        of("pieces finish", taken, input, before.clone());
+    }
+}
+
 fn main() -> ExitCode {
     let mut count = Count::default();
     for (input, bytes) in worst_for_read() {
@@ -87,6 +137,7 @@ fn main() -> ExitCode {
         });
         count.of("read", taken, MOST_FOR_READ, input, read::proved(&bytes));
     }
+    pieces(&mut count);
     let calls: [(&str, Parts, Call); 2] = [
         ("child", child::proved, |bytes, k| {
             let _ = black_box(shiulbart::child(black_box(bytes), k));
