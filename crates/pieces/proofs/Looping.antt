@@ -81,8 +81,8 @@ exact-pop : (es : List Entry) (n : ℕ) → 0 < n → es ≡ laidOut (stackOf es
 exact-pop es zero h e = absurd (omega arith)
 exact-pop es (suc n) h e = rw (sub-one, stack-same es noEntry n n (omega arith)) (exact-down es n e)
 
-module _ (s : List ℕ) (es₀ : List Entry) (m₀ : Mode) (top₀ : Level) (n₀ count₀ whole₀ deepest₀ : ℕ) (es : List Entry) (m : Mode) (top : Level) (n count whole deepest i : ℕ)
-    (inv : Inv s es₀ m₀ top₀ n₀ count₀ whole₀ deepest₀ es m top n count whole deepest i) (t : Turned) (lead : Leads s i m top n count whole deepest t) where
+module _ {s : List ℕ} {es₀ : List Entry} {m₀ : Mode} {top₀ : Level} {n₀ count₀ whole₀ deepest₀ : ℕ} {es : List Entry} {m : Mode} {top : Level} {n count whole deepest i : ℕ}
+    (inv : Inv s es₀ m₀ top₀ n₀ count₀ whole₀ deepest₀ es m top n count whole deepest i) {t : Turned} (lead : Leads s i m top n count whole deepest t) where
   light : (a : Act) → t .act ≡ a → Lighter s i m n t a
   light a e = subst (λ x. Lighter s i m n t x) e (lead .lighter)
 

@@ -100,7 +100,7 @@ counts (b ∷ w) stack m top count whole deepest h = go (leb maxBytes count) ref
         rw (step-few stack top m count whole deepest b (record { mode = m; top = top; deepest = deepest }) k (sym (idle-taken m top (length stack) deepest count b h)), enter-rest m stack top (count + 1) whole deepest (idle-rests m h .0))
         (rest (count + 1) ∙ ap (λ x. run stack top m x whole deepest) (more _ refl k))
 
-module _ (s : List ℕ) (i : ℕ) (m : Mode) (top : Level) (n count whole deepest : ℕ) where
+module _ {s : List ℕ} {i : ℕ} {m : Mode} {top : Level} {n count whole deepest : ℕ} where
   pub stay-leads : (m′ : Mode) (top′ : Level) (count′ deepest′ j : ℕ) → resting m ≡ true → i < j → j ≤ length s → n + sized m′ ≤ maxLevels
       → ((stack : List Level) → length stack ≡ n → fed (run stack top m count whole deepest) (drop i s) ≡ fed (entered m′ stack top′ count′ whole deepest′) (drop j s))
       → Leads s i m top n count whole deepest (stayed m′ top′ count′ whole deepest′ j)
@@ -164,18 +164,18 @@ at-level : (n : ℕ) (P : List Level → Type 0) → 0 < n → ((l : Level) (ls 
 at-level n P h f [] e = absurd (omega arith)
 at-level n P h f (l ∷ ls) e = f l ls e
 
-module _ (s : List ℕ) (i : ℕ) (top : Level) (n count whole deepest end : ℕ) (window : WindowEnd (length s) i (top .stop) count end) (some : 0 < n) where
+module _ {s : List ℕ} {i : ℕ} {top : Level} {n count whole deepest end : ℕ} (window : WindowEnd (length s) i (top .stop) count end) (some : 0 < n) where
   pub shape-leads : (next deep : ℕ) → n ≤ maxLevels → ShapeFed s end i n deepest (Whole next deep) → Leads s i Head top n count whole deepest (stayed Between (afterChild top (getD s i 0)) (count + (next - i)) whole deep next)
   unfolding entered
   shape-leads next deep k h =
-      stay-leads s i Head top n count whole deepest Between (afterChild top (getD s i 0)) (count + (next - i)) deep next refl (h .0) (omega (arith, h .1, window .within)) (omega arith)
+      stay-leads Between (afterChild top (getD s i 0)) (count + (next - i)) deep next refl (h .0) (omega (arith, h .1, window .within)) (omega arith)
       (at-level n (λ stack. fed (run stack top Head count whole deepest) (drop i s) ≡ fed (settle stack (afterChild top (getD s i 0)) (count + (next - i)) whole deep) (drop next s)) some
       λ l ls e. h .2 l ls top count whole e (window .inside (omega (arith, h .0, h .1))) (window .few))
 
   pub items-leads : (m : Mode) (r : Taken.Run) → m ≡ itemMode (top .items) → resting m ≡ true → n + sized m ≤ maxLevels → RunFed (top .items) s end i n (top .due) deepest r → i < r .i
       → Leads s i m top n count whole deepest (stayed m (withDue top (r .due)) (count + (r .i - i)) whole (r .deepest) (r .i))
   items-leads m r e q f h p =
-      stay-leads s i m top n count whole deepest m (withDue top (r .due)) (count + (r .i - i)) (r .deepest) (r .i) q p (omega (arith, h .inside, window .from, window .within)) f
+      stay-leads m (withDue top (r .due)) (count + (r .i - i)) (r .deepest) (r .i) q p (omega (arith, h .inside, window .from, window .within)) f
       (at-level n (λ stack. fed (run stack top m count whole deepest) (drop i s) ≡ fed (entered m stack (withDue top (r .due)) (count + (r .i - i)) whole (r .deepest)) (drop (r .i) s)) some
       λ l ls z. rw (enter-rest m (l ∷ ls) (withDue top (r .due)) (count + (r .i - i)) whole (r .deepest) q, e)
       (h .same l ls (top .at) (top .stop) count whole z (window .inside (omega (arith, h .inside))) (window .few)))
@@ -209,20 +209,20 @@ pub well-le : (s : List ℕ) (i end : ℕ) → end ≤ length s → wellFormed (
 unfolding wellFormed
 well-le s i end h = let l = window-length s i end h in let c = chars-le (length (slice i end s)) (slice i end s) in omega arith
 
-module _ (s : List ℕ) (i : ℕ) (top : Level) (n count whole deepest from left low high end to : ℕ) (k : n ≤ maxLevels) (b : i ≤ end) (h : end ≤ length s) (f : count + (end - i) ≤ maxBytes) (z : end ≤ i + left)
+module _ {s : List ℕ} {i : ℕ} {top : Level} {n count whole deepest from left low high end to : ℕ} (k : n ≤ maxLevels) (b : i ≤ end) (h : end ≤ length s) (f : count + (end - i) ≤ maxBytes) (z : end ≤ i + left)
     (e : to ≡ i + wellFormed (slice i end s)) (p : i < to) where
   -- well-formed characters of a text that goes on, and of one that ends with them
   pub letters-go : to - i < left → Leads s i (Letters from left 0 low high) top n count whole deepest (stayed (Letters from (left - (to - i)) 0 0 0) top (count + (to - i)) whole deepest to)
   unfolding entered
   letters-go q =
       let w = well-le s i end h in let j : i + (to - i) ≡ to = omega arith in
-      stay-leads s i (Letters from left 0 low high) top n count whole deepest (Letters from (left - (to - i)) 0 0 0) top (count + (to - i)) deepest to refl p (omega arith) (omega arith)
+      stay-leads (Letters from (left - (to - i)) 0 0 0) top (count + (to - i)) deepest to refl p (omega arith) (omega arith)
       λ stack l. letters-on s stack top whole deepest i end from left low high count (to - i) b h f (omega arith) (omega arith) q
       ∙ ap (λ x. fed (run stack top (Letters from (left - (to - i)) 0 0 0) (count + (to - i)) whole deepest) (drop x s)) j
 
   pub letters-end : left ≤ to - i → Leads s i (Letters from left 0 low high) top n count whole deepest (stayed (textDone (top .items) top (count + (to - i))) top (count + (to - i)) whole deepest to)
   letters-end q =
       let w = well-le s i end h in let j : i + (to - i) ≡ to = omega arith in
-      stay-leads s i (Letters from left 0 low high) top n count whole deepest (textDone (top .items) top (count + (to - i))) top (count + (to - i)) deepest to refl p (omega arith) (done-fair n (top .items) top (count + (to - i)) k)
+      stay-leads (textDone (top .items) top (count + (to - i))) top (count + (to - i)) deepest to refl p (omega arith) (done-fair n (top .items) top (count + (to - i)) k)
       λ stack l. letters-out s stack top whole deepest i end from left low high count (to - i) b h f (omega arith) (omega arith) (omega arith)
       ∙ ap (λ x. fed (entered (textDone (top .items) top (count + (to - i))) stack top (count + (to - i)) whole deepest) (drop x s)) j

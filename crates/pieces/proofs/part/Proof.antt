@@ -45,59 +45,59 @@ turn-requires c κs = let l = c .loop .inv .0 in (l .within, l .fair)
 
 returns-4 : tie.Need-returns-4 Inv-loop μ-loop
 returns-4 c =
-    let a = c .before .before .before .before .before .before .before .before .before .before .before .before .before .before .before .before in let l = c .before .before .before .before .before .before .loop in (
+    let l = c .before .before .before .before .before .before .loop in (
       (λ h. absurd (omega (arith, h, c .before .before .before .before .before .before .before .before .before .before .before .before .if1 .left))),
       λ u e. rw (c .before .entry-of .ensures, c .word-of .ensures, l .inv .1 ∙ led-open u _ e)
-          (rest-led (a .args .bytes .now) (a .args .t1 .levels) (c .before .before .before .before .before .before .before .before .before .before .before .before .before .mode-of .result) (c .before .before .before .before .before .before .before .level-of .result) (a .args .t1 .used) (a .args .t1 .count) (a .args .t1 .whole) (a .args .t1 .deepest) (l .state .levels) (l .mode) (l .top) (l .n) (l .count) (l .whole) (l .deepest) (l .i) (l .inv .0) (c .before .before .before .before .before .turn .result) (c .before .before .before .before .before .turn .ensures) (c .before .before .before .enum-told .given .1) u (sym (ap runOf e) ∙ rw (c .before .before .before .before .before .before .before .level-of .ensures, c .before .before .before .before .before .before .before .before .before .before .before .before .before .mode-of .ensures)) (ap (λ (y : State). y .levels) e) (ap (λ (y : State). y .used) e)),
+          (rest-led (l .inv .0) (c .before .before .before .before .before .turn .ensures) (c .before .before .before .enum-told .given .1) u (sym (ap runOf e) ∙ rw (c .before .before .before .before .before .before .before .level-of .ensures, c .before .before .before .before .before .before .before .before .before .before .before .before .before .mode-of .ensures)) (ap (λ (y : State). y .levels) e) (ap (λ (y : State). y .used) e)),
     )
 
 loop-less : tie.Need-loop-less Inv-loop μ-loop
-loop-less c = let a = c .before .before .before .before .before .before .before .before .before .before .before .before .before .before in let l = c .before .before .before .before .loop in stay-less (a .args .bytes .now) (a .args .t1 .levels) (c .before .before .before .before .before .before .before .before .before .before .before .mode-of .result) (c .before .before .before .before .before .level-of .result) (a .args .t1 .used) (a .args .t1 .count) (a .args .t1 .whole) (a .args .t1 .deepest) (l .state .levels) (l .mode) (l .top) (l .n) (l .count) (l .whole) (l .deepest) (l .i) (l .inv .0) (c .before .before .before .turn .result) (c .before .before .before .turn .ensures) (c .before .enum-told2 .given .1)
+loop-less c = let l = c .before .before .before .before .loop in stay-less (l .inv .0) (c .before .before .before .turn .ensures) (c .before .enum-told2 .given .1)
 
 loop-again : tie.Need-loop-again Inv-loop μ-loop
-loop-again c = let a = c .before .before .before .before .before .before .before .before .before .before .before .before .before .before in let l = c .before .before .before .before .loop in (inv-stay (a .args .bytes .now) (a .args .t1 .levels) (c .before .before .before .before .before .before .before .before .before .before .before .mode-of .result) (c .before .before .before .before .before .level-of .result) (a .args .t1 .used) (a .args .t1 .count) (a .args .t1 .whole) (a .args .t1 .deepest) (l .state .levels) (l .mode) (l .top) (l .n) (l .count) (l .whole) (l .deepest) (l .i) (l .inv .0) (c .before .before .before .turn .result) (c .before .before .before .turn .ensures) (c .before .enum-told2 .given .1), l .inv .1)
+loop-again c = let l = c .before .before .before .before .loop in (inv-stay (l .inv .0) (c .before .before .before .turn .ensures) (c .before .enum-told2 .given .1), l .inv .1)
 
 cast-k : tie.Need-cast-k Inv-loop μ-loop
-cast-k c = let a = c .before .before .before .before .before .before .before .before .before .before .before .before .before in let l = c .before .before .before .loop in let h = push-room (a .args .bytes .now) (a .args .t1 .levels) (c .before .before .before .before .before .before .before .before .before .before .mode-of .result) (c .before .before .before .before .level-of .result) (a .args .t1 .used) (a .args .t1 .count) (a .args .t1 .whole) (a .args .t1 .deepest) (l .state .levels) (l .mode) (l .top) (l .n) (l .count) (l .whole) (l .deepest) (l .i) (l .inv .0) (c .before .before .turn .result) (c .before .before .turn .ensures) (c .enum-told3 .given .1) in omega arith
+cast-k c = let l = c .before .before .before .loop in let h = push-room (l .inv .0) (c .before .before .turn .ensures) (c .enum-told3 .given .1) in omega arith
 
 mul-t27 : tie.Need-mul-t27 Inv-loop μ-loop
-mul-t27 c = let a = c .before .before .before .before .before .before .before .before .before .before .before .before .before .before in let l = c .before .before .before .before .loop in let h = push-room (a .args .bytes .now) (a .args .t1 .levels) (c .before .before .before .before .before .before .before .before .before .before .before .mode-of .result) (c .before .before .before .before .before .level-of .result) (a .args .t1 .used) (a .args .t1 .count) (a .args .t1 .whole) (a .args .t1 .deepest) (l .state .levels) (l .mode) (l .top) (l .n) (l .count) (l .whole) (l .deepest) (l .i) (l .inv .0) (c .before .before .before .turn .result) (c .before .before .before .turn .ensures) (c .before .enum-told3 .given .1) in omega arith
+mul-t27 c = let l = c .before .before .before .before .loop in let h = push-room (l .inv .0) (c .before .before .before .turn .ensures) (c .before .enum-told3 .given .1) in omega arith
 
 element-set-from-state : tie.Need-element-set-from-state Inv-loop μ-loop
-element-set-from-state c = let a = c .before .before .before .before .before .before .before .before .before .before .before .before .before .before in let l = c .before .before .before .before .loop in push-room (a .args .bytes .now) (a .args .t1 .levels) (c .before .before .before .before .before .before .before .before .before .before .before .mode-of .result) (c .before .before .before .before .before .level-of .result) (a .args .t1 .used) (a .args .t1 .count) (a .args .t1 .whole) (a .args .t1 .deepest) (l .state .levels) (l .mode) (l .top) (l .n) (l .count) (l .whole) (l .deepest) (l .i) (l .inv .0) (c .before .before .before .turn .result) (c .before .before .before .turn .ensures) (c .before .enum-told3 .given .1)
+element-set-from-state c = let l = c .before .before .before .before .loop in push-room (l .inv .0) (c .before .before .before .turn .ensures) (c .before .enum-told3 .given .1)
 
 add-n : tie.Need-add-n Inv-loop μ-loop
-add-n c = let a = c .before .before .before .before .before .before .before .before .before .before .before .before .before .before in let l = c .before .before .before .before .loop in let h = push-room (a .args .bytes .now) (a .args .t1 .levels) (c .before .before .before .before .before .before .before .before .before .before .before .mode-of .result) (c .before .before .before .before .before .level-of .result) (a .args .t1 .used) (a .args .t1 .count) (a .args .t1 .whole) (a .args .t1 .deepest) (l .state .levels) (l .mode) (l .top) (l .n) (l .count) (l .whole) (l .deepest) (l .i) (l .inv .0) (c .before .before .before .turn .result) (c .before .before .before .turn .ensures) (c .before .enum-told3 .given .1) in omega arith
+add-n c = let l = c .before .before .before .before .loop in let h = push-room (l .inv .0) (c .before .before .before .turn .ensures) (c .before .enum-told3 .given .1) in omega arith
 
 loop-less-2 : tie.Need-loop-less-2 Inv-loop μ-loop
-loop-less-2 c = let a = c .before .before .before .before .before .before .before .before .before .before .before .before .before .before .before in let l = c .before .before .before .before .before .loop in push-less (a .args .bytes .now) (a .args .t1 .levels) (c .before .before .before .before .before .before .before .before .before .before .before .before .mode-of .result) (c .before .before .before .before .before .before .level-of .result) (a .args .t1 .used) (a .args .t1 .count) (a .args .t1 .whole) (a .args .t1 .deepest) (l .state .levels) (l .mode) (l .top) (l .n) (l .count) (l .whole) (l .deepest) (l .i) (l .inv .0) (c .before .before .before .before .turn .result) (c .before .before .before .before .turn .ensures) (c .before .before .enum-told3 .given .1)
+loop-less-2 c = let l = c .before .before .before .before .before .loop in push-less (l .inv .0) (c .before .before .before .before .turn .ensures) (c .before .before .enum-told3 .given .1)
 
 loop-again-2 : tie.Need-loop-again-2 Inv-loop μ-loop
-loop-again-2 c = let a = c .before .before .before .before .before .before .before .before .before .before .before .before .before .before .before in let l = c .before .before .before .before .before .loop in (rw (c .before .entry-of2 .ensures) (inv-push (a .args .bytes .now) (a .args .t1 .levels) (c .before .before .before .before .before .before .before .before .before .before .before .before .mode-of .result) (c .before .before .before .before .before .before .level-of .result) (a .args .t1 .used) (a .args .t1 .count) (a .args .t1 .whole) (a .args .t1 .deepest) (l .state .levels) (l .mode) (l .top) (l .n) (l .count) (l .whole) (l .deepest) (l .i) (l .inv .0) (c .before .before .before .before .turn .result) (c .before .before .before .before .turn .ensures) (c .before .before .enum-told3 .given .1)), l .inv .1)
+loop-again-2 c = let l = c .before .before .before .before .before .loop in (rw (c .before .entry-of2 .ensures) (inv-push (l .inv .0) (c .before .before .before .before .turn .ensures) (c .before .before .enum-told3 .given .1)), l .inv .1)
 
 sub-n : tie.Need-sub-n Inv-loop μ-loop
-sub-n c = let a = c .before .before .before .before .before .before .before .before .before .before .before .before .before in let l = c .before .before .before .loop in pop-some (a .args .bytes .now) (a .args .t1 .levels) (c .before .before .before .before .before .before .before .before .before .before .mode-of .result) (c .before .before .before .before .level-of .result) (a .args .t1 .used) (a .args .t1 .count) (a .args .t1 .whole) (a .args .t1 .deepest) (l .state .levels) (l .mode) (l .top) (l .n) (l .count) (l .whole) (l .deepest) (l .i) (l .inv .0) (c .before .before .turn .result) (c .before .before .turn .ensures) (c .enum-told4 .given .1)
+sub-n c = let l = c .before .before .before .loop in pop-some (l .inv .0) (c .before .before .turn .ensures) (c .enum-told4 .given .1)
 
 cast-k-2 : tie.Need-cast-k-2 Inv-loop μ-loop
-cast-k-2 c = let a = c .before .before .before .before .before .before .before .before .before .before .before .before .before in let l = c .before .before .before .loop in omega (arith, l .inv .0 .fair)
+cast-k-2 c = let l = c .before .before .before .loop in omega (arith, l .inv .0 .fair)
 
 mul-entry : tie.Need-mul-entry Inv-loop μ-loop
-mul-entry c = let a = c .before .before .before .before .before .before .before .before .before .before .before .before .before in let l = c .before .before .before .loop in omega (arith, l .inv .0 .fair)
+mul-entry c = let l = c .before .before .before .loop in omega (arith, l .inv .0 .fair)
 
 element-copy-out-entry : tie.Need-element-copy-out-entry Inv-loop μ-loop
-element-copy-out-entry c = let a = c .before .before .before .before .before .before .before .before .before .before .before .before .before in let l = c .before .before .before .loop in let h = pop-some (a .args .bytes .now) (a .args .t1 .levels) (c .before .before .before .before .before .before .before .before .before .before .mode-of .result) (c .before .before .before .before .level-of .result) (a .args .t1 .used) (a .args .t1 .count) (a .args .t1 .whole) (a .args .t1 .deepest) (l .state .levels) (l .mode) (l .top) (l .n) (l .count) (l .whole) (l .deepest) (l .i) (l .inv .0) (c .before .before .turn .result) (c .before .before .turn .ensures) (c .enum-told4 .given .1) in omega (arith, l .inv .0 .fair)
+element-copy-out-entry c = let l = c .before .before .before .loop in let h = pop-some (l .inv .0) (c .before .before .turn .ensures) (c .enum-told4 .given .1) in omega (arith, l .inv .0 .fair)
 
 mul-t30 : tie.Need-mul-t30 Inv-loop μ-loop
-mul-t30 c = let a = c .before .before .before .before .before .before .before .before .before .before .before .before .before .before .before in let l = c .before .before .before .before .before .loop in omega (arith, l .inv .0 .fair)
+mul-t30 c = let l = c .before .before .before .before .before .loop in omega (arith, l .inv .0 .fair)
 
 element-set-from-state-2 : tie.Need-element-set-from-state-2 Inv-loop μ-loop
-element-set-from-state-2 c = let a = c .before .before .before .before .before .before .before .before .before .before .before .before .before .before .before in let l = c .before .before .before .before .before .loop in let h = pop-some (a .args .bytes .now) (a .args .t1 .levels) (c .before .before .before .before .before .before .before .before .before .before .before .before .mode-of .result) (c .before .before .before .before .before .before .level-of .result) (a .args .t1 .used) (a .args .t1 .count) (a .args .t1 .whole) (a .args .t1 .deepest) (l .state .levels) (l .mode) (l .top) (l .n) (l .count) (l .whole) (l .deepest) (l .i) (l .inv .0) (c .before .before .before .before .turn .result) (c .before .before .before .before .turn .ensures) (c .before .before .enum-told4 .given .1) in omega (arith, l .inv .0 .fair)
+element-set-from-state-2 c = let l = c .before .before .before .before .before .loop in let h = pop-some (l .inv .0) (c .before .before .before .before .turn .ensures) (c .before .before .enum-told4 .given .1) in omega (arith, l .inv .0 .fair)
 
 loop-less-3 : tie.Need-loop-less-3 Inv-loop μ-loop
-loop-less-3 c = let a = c .before .before .before .before .before .before .before .before .before .before .before .before .before .before .before .before in let l = c .before .before .before .before .before .before .loop in pop-less (a .args .bytes .now) (a .args .t1 .levels) (c .before .before .before .before .before .before .before .before .before .before .before .before .before .mode-of .result) (c .before .before .before .before .before .before .before .level-of .result) (a .args .t1 .used) (a .args .t1 .count) (a .args .t1 .whole) (a .args .t1 .deepest) (l .state .levels) (l .mode) (l .top) (l .n) (l .count) (l .whole) (l .deepest) (l .i) (l .inv .0) (c .before .before .before .before .before .turn .result) (c .before .before .before .before .before .turn .ensures) (c .before .before .before .enum-told4 .given .1)
+loop-less-3 c = let l = c .before .before .before .before .before .before .loop in pop-less (l .inv .0) (c .before .before .before .before .before .turn .ensures) (c .before .before .before .enum-told4 .given .1)
 
 loop-again-3 : tie.Need-loop-again-3 Inv-loop μ-loop
-loop-again-3 c = let a = c .before .before .before .before .before .before .before .before .before .before .before .before .before .before .before .before in let l = c .before .before .before .before .before .before .loop in (rw (c .level-of2 .ensures, c .before .no-entry .ensures) (inv-pop (a .args .bytes .now) (a .args .t1 .levels) (c .before .before .before .before .before .before .before .before .before .before .before .before .before .mode-of .result) (c .before .before .before .before .before .before .before .level-of .result) (a .args .t1 .used) (a .args .t1 .count) (a .args .t1 .whole) (a .args .t1 .deepest) (l .state .levels) (l .mode) (l .top) (l .n) (l .count) (l .whole) (l .deepest) (l .i) (l .inv .0) (c .before .before .before .before .before .turn .result) (c .before .before .before .before .before .turn .ensures) (c .before .before .before .enum-told4 .given .1) _), l .inv .1)
+loop-again-3 c = let l = c .before .before .before .before .before .before .loop in (rw (c .level-of2 .ensures, c .before .no-entry .ensures) (inv-pop (l .inv .0) (c .before .before .before .before .before .turn .ensures) (c .before .before .before .enum-told4 .given .1) _), l .inv .1)
 
 pub part-spec : {M : Type 1} → statement M
 part-spec =

@@ -9,7 +9,7 @@ use Rattle.turns.proofs.byte_turn.Tie as tie
 returns : tie.Need-returns
 returns c =
     let a = c .before .before .before .before .before in
-    rw (c .stay .ensures) (byte-leads (a .args .s .now) _ _ _ _ _ _ _ (c .before .before .taken .result) (a .pre .3) (omega arith) (omega arith) (omega arith) (c .before .before .taken .ensures))
+    rw (c .stay .ensures) (byte-leads (c .before .before .taken .result) (a .pre .3) (omega arith) (omega arith) (omega arith) (c .before .before .taken .ensures))
 
 pub byte-turn-spec : {M : Type 1} → statement M
 byte-turn-spec =

@@ -21,13 +21,11 @@ returns-6 c = rw (c .before .before .before .mode .given .1) (c .byte-turn3 .ens
 
 returns-7 : tie.Need-returns-7
 returns-7 c =
-    let a = c .before .before .before .before in
-    rw (c .skipped .ensures) (skip-leads (a .args .s .now) (a .args .i) (a .args .mode) (a .args .top) (a .args .n) (a .args .count) (a .args .whole) (a .args .deepest) (rw (c .before .enum-told3 .given .1) refl) (omega arith) (omega arith))
+    rw (c .skipped .ensures) (skip-leads (rw (c .before .enum-told3 .given .1) refl) (omega arith) (omega arith))
 
 returns-8 : tie.Need-returns-8
 returns-8 c =
-    let a = c .before .before .before .before in
-    rw (c .skipped2 .ensures) (skip-leads (a .args .s .now) (a .args .i) (a .args .mode) (a .args .top) (a .args .n) (a .args .count) (a .args .whole) (a .args .deepest) (rw (c .before .enum-told4 .given .1) refl) (omega arith) (omega arith))
+    rw (c .skipped2 .ensures) (skip-leads (rw (c .before .enum-told4 .given .1) refl) (omega arith) (omega arith))
 
 pub bytes-turn-spec : {M : Type 1} → statement M
 bytes-turn-spec =

@@ -17,10 +17,9 @@ add-stay c = let k = c .before .before .before in let h = rw (k .next .given .1)
 
 returns-2 : tie.Need-returns-2
 returns-2 c =
-    let a = c .before .before .before .before .before .before .before .before .before in
     let k = c .before .before .before .before in let h = rw (k .next .given .1) at (k .before .before .shape-item .ensures) in let w = k .before .before .before .window-end .ensures in
     rw (c .stay .ensures, c .before .after-child .ensures)
-    (shape-leads (a .args .s .now) (a .args .i) (a .args .top) (a .args .n) (a .args .count) (a .args .whole) (a .args .deepest) _ w (omega arith) _ _ (omega arith) h)
+    (shape-leads w (omega arith) _ _ (omega arith) h)
 
 pub head-turn-spec : {M : Type 1} → statement M
 head-turn-spec =

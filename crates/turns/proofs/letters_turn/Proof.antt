@@ -19,7 +19,7 @@ add-stay c = let a = c .before .before .before .before .before .before .before i
 returns-2 : tie.Need-returns-2
 returns-2 c =
     let a = c .before .before .before .before .before .before .before .before in let e = c .before .before .before .before .well-formed-to .ensures in let w = well-le (a .args .s .now) (a .args .i) (a .args .i + c .before .before .before .before .before .least2 .result) (omega arith) in
-    rw (c .stay .ensures, c .before .text-done .ensures) (letters-end (a .args .s .now) (a .args .i) (a .args .top) (a .args .n) (a .args .count) (a .args .whole) (a .args .deepest) (a .args .from) (a .args .left) (a .args .low) (a .args .high) (a .args .i + c .before .before .before .before .before .least2 .result) (c .before .before .before .before .well-formed-to .result) (omega arith) (omega arith) (omega arith) (omega arith) (omega arith) e (omega arith) (omega arith))
+    rw (c .stay .ensures, c .before .text-done .ensures) (letters-end {end = a .args .i + c .before .before .before .before .before .least2 .result} (omega arith) (omega arith) (omega arith) (omega arith) (omega arith) e (omega arith) (omega arith))
 
 add-stay-2 : tie.Need-add-stay-2
 add-stay-2 c = let a = c .before .before .before .before .before .before in let e = c .before .before .well-formed-to .ensures in let w = well-le (a .args .s .now) (a .args .i) (a .args .i + c .before .before .before .least2 .result) (omega arith) in omega arith
@@ -27,7 +27,7 @@ add-stay-2 c = let a = c .before .before .before .before .before .before in let 
 returns-3 : tie.Need-returns-3
 returns-3 c =
     let a = c .before .before .before .before .before .before .before in let e = c .before .before .before .well-formed-to .ensures in let w = well-le (a .args .s .now) (a .args .i) (a .args .i + c .before .before .before .before .least2 .result) (omega arith) in
-    rw (c .stay2 .ensures) (letters-go (a .args .s .now) (a .args .i) (a .args .top) (a .args .n) (a .args .count) (a .args .whole) (a .args .deepest) (a .args .from) (a .args .left) (a .args .low) (a .args .high) (a .args .i + c .before .before .before .before .least2 .result) (c .before .before .before .well-formed-to .result) (omega arith) (omega arith) (omega arith) (omega arith) (omega arith) e (omega arith) (omega arith))
+    rw (c .stay2 .ensures) (letters-go {end = a .args .i + c .before .before .before .before .least2 .result} (omega arith) (omega arith) (omega arith) (omega arith) (omega arith) e (omega arith) (omega arith))
 
 pub letters-turn-spec : {M : Type 1} → statement M
 letters-turn-spec =

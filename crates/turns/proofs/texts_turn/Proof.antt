@@ -12,7 +12,7 @@ returns : tie.Need-returns
 returns c =
     let a = c .before .before .before .before .before .before .before .before in
     rw (c .ran .ensures)
-    (items-leads (a .args .s .now) (a .args .i) (a .args .top) (a .args .n) (a .args .count) (a .args .whole) (a .args .deepest) _ (c .before .before .before .before .window-end .ensures) (omega arith) Length (c .before .before .before .items-run .result)
+    (items-leads (c .before .before .before .before .window-end .ensures) (omega arith) Length (c .before .before .before .items-run .result)
     (named-mode (a .args .top .items) (sym (c .before .before .before .before .before .before .named .ensures) ∙ c .before .before .before .before .before .if1 .taken)) refl (omega arith) (c .before .before .before .items-run .ensures) (omega arith))
 
 pub texts-turn-spec : {M : Type 1} → statement M

@@ -9,18 +9,15 @@ use Rattle.turns.proofs.turn.Tie as tie
 
 returns : tie.Need-returns
 returns c =
-    let a = c .before .before .before .before .before in
-    rw (c .rest .ensures) (rest-leads (a .args .s .now) (a .args .i) (a .args .mode) (a .args .top) (a .args .n) (a .args .count) (a .args .whole) (a .args .deepest) (sym (c .before .before .before .resting .ensures) ∙ c .before .before .if1 .taken) (omega arith) (omega arith) (omega arith))
+    rw (c .rest .ensures) (rest-leads (sym (c .before .before .before .resting .ensures) ∙ c .before .before .if1 .taken) (omega arith) (omega arith) (omega arith))
 
 returns-2 : tie.Need-returns-2
 returns-2 c =
-    let a = c .before .before .before .before .before .before in
-    rw (c .rest2 .ensures) (over-leads (a .args .s .now) (a .args .i) (a .args .mode) (a .args .top) (a .args .n) (a .args .count) (a .args .whole) (a .args .deepest) (sym (c .before .before .before .before .resting .ensures) ∙ c .before .before .before .if1 .taken) (omega arith) (omega arith) (omega arith))
+    rw (c .rest2 .ensures) (over-leads (sym (c .before .before .before .before .resting .ensures) ∙ c .before .before .before .if1 .taken) (omega arith) (omega arith) (omega arith))
 
 returns-4 : tie.Need-returns-4
 returns-4 c =
-    let a = c .before .before .before .before .before in
-    move-leads (a .args .s .now) (a .args .i) (a .args .mode) (a .args .top) (a .args .n) (a .args .count) (a .args .whole) (a .args .deepest) (c .before .move-on .result) (sym (c .before .before .before .resting .ensures) ∙ c .before .before .if1 .left) (omega arith) (omega arith) (c .before .move-on .ensures)
+    move-leads (c .before .move-on .result) (sym (c .before .before .before .resting .ensures) ∙ c .before .before .if1 .left) (omega arith) (omega arith) (c .before .move-on .ensures)
 
 pub turn-spec : {M : Type 1} → statement M
 turn-spec =
