@@ -92,7 +92,7 @@ else
     rust_tests -p shiulbart --doc
 fi
 
-# the header, from C and, where there is a compiler for it, as C++
+# the header, from C99 and C11 and, where there is a compiler for it, as C++
 strict=(-Wall -Wextra -Werror -pedantic -I "$top/include")
 if "$compiler" -std=c99 "${strict[@]}" "$top/tests/header.c" "$archive" -o "$scratch/header" 2>&1; then
     $runner "$scratch/header" >"$scratch/header.out" 2>&1
@@ -101,6 +101,11 @@ if "$compiler" -std=c99 "${strict[@]}" "$top/tests/header.c" "$archive" -o "$scr
     count tests/header.c "$status" "$scratch/header.out"
 else
     wrong "tests/header.c does not compile"
+fi
+if "$compiler" -std=c11 "${strict[@]}" -fsyntax-only "$top/tests/header.c" 2>&1; then
+    passed=$((passed + 1))
+else
+    wrong "tests/header.c does not compile as C11"
 fi
 if command -v c++ >/dev/null; then
     if c++ -std=c++11 "${strict[@]}" -fsyntax-only -x c++ "$top/include/shiulbart.h" 2>&1; then
