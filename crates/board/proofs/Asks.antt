@@ -27,8 +27,6 @@ use Rattle.way_back.proofs.to_table.Reads as table-reads
 use Rattle.editor.proofs.write_records as records
 use Rattle.pieces.proofs.start as pieces-start
 use Rattle.pieces.proofs.start.Reads as pieces-start-reads
-use Rattle.pieces.proofs.part as pieces-part
-use Rattle.pieces.proofs.part.Reads as pieces-part-reads
 use Rattle.pieces.proofs.finish as pieces-finish
 use Rattle.pieces.proofs.finish.Reads as pieces-finish-reads
 use Rattle.board.proofs.shiulbart_read as board-read
@@ -122,9 +120,6 @@ module _ (w : World) (κs : Lfts 0) (a : _) where
   board-pieces-start-asks-nothing = (refl, tt)
 
 module _ (w : World) (κs : Lfts 1) (a : _) where
-  pub pieces-part-asks-nothing : (pieces-part.clauses (w .𝓤) (w .H) (w .𝓖 .A) (w .𝓜 .mem) (w .𝓡 .run) κs a .requires tt ≡ emp (w .𝓤)) × pieces-part-reads.Pre κs a
-  pieces-part-asks-nothing = (refl, tt)
-
   pub board-pieces-part-asks-nothing : (board-pieces-part.clauses (w .𝓤) (w .H) (w .𝓖 .A) (w .𝓜 .mem) (w .𝓡 .run) κs a .requires tt ≡ emp (w .𝓤)) × board-pieces-part-reads.Pre κs a
   board-pieces-part-asks-nothing = (refl, tt)
 

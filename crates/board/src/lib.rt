@@ -5,8 +5,17 @@ use answers::made_answer;
 use answers::name_answer;
 use answers::read_answer;
 use answers::sheet_answer;
+use byte_steps::modes::LEVELS;
 use editor::Node;
 use pieces::state::State;
+use pieces::state::entry_of;
+use pieces::state::level_of;
+use pieces::state::mode_of;
+use pieces::state::no_entry;
+use pieces::state::word_of;
+use turns::moves::Act;
+use turns::moves::sized;
+use turns::turn;
 ghost use Prim.Native.Nat.{ℕ, _<_};
 ghost use mathlib.Core.Path.{_≡_};
 ghost use mathlib.Core.List.{List, [], _++_};
@@ -103,13 +112,72 @@ pub extern "C" fn shiulbart_pieces_start() -> State
     pieces::start()
 }
 
-// The state after one more part, of whatever length, also of none. A part after the finish changes nothing.
+// The state after one more part, of whatever length, also of none. A part after the finish changes nothing. The state is worked on in place: what the
+// loop needs at each turn is held beside it, and put back where the part ends.
 #[no_mangle]
-pub extern "C" fn shiulbart_pieces_part(state: State, part: &[u8]) -> State
+pub extern "C" fn shiulbart_pieces_part(mut state: State, part: &[u8]) -> State
     ensures still { λ r. ⌜ (0 < state .closed → r ≡ state) ⌝ }
     ensures led { λ r. ⌜ ((u : List ℕ) → state ≡ ledTo u → r ≡ ledTo (u ++ now (part .entry))) ⌝ }
 {
-    pieces::part(state, part)
+    let next = state.next;
+    let mut mode = mode_of(next);
+    if 0 < state.closed {
+        return state;
+    }
+    // from a state that no part leads to
+    if LEVELS < state.used {
+        return state;
+    }
+    if LEVELS < state.used + sized(mode) {
+        return state;
+    }
+    let first = state.top;
+    let mut top = level_of(first);
+    let mut n = state.used;
+    let mut count = state.count;
+    let mut whole = state.whole;
+    let mut deepest = state.deepest;
+    let mut i = 0;
+    loop {
+        let t = turn(part, i, mode, top, n, count, whole, deepest);
+        let act = t.act;
+        count = t.count;
+        whole = t.whole;
+        deepest = t.deepest;
+        i = t.i;
+        match act {
+            Act::Rest => {
+                let last = t.mode;
+                let level = t.top;
+                state.top = entry_of(level);
+                state.next = word_of(last);
+                state.used = n;
+                state.count = count;
+                state.whole = whole;
+                state.deepest = deepest;
+                return state;
+            }
+            Act::Stay => {
+                mode = t.mode;
+                top = t.top;
+            }
+            Act::Push => {
+                let k = n as usize;
+                state.levels[k] = entry_of(top);
+                n += 1;
+                mode = t.mode;
+                top = t.top;
+            }
+            Act::Pop => {
+                n -= 1;
+                let k = n as usize;
+                let entry = state.levels[k];
+                state.levels[k] = no_entry();
+                top = level_of(entry);
+                mode = t.mode;
+            }
+        }
+    }
 }
 
 // What the finish gives: the state, finished, and the answer.

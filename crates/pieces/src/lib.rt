@@ -1,8 +1,8 @@
-// A reader that is fed with parts and answers at the finish, as the whole reader does for the parts joined.
+// A reader that is fed with parts and answers at the finish, as the whole reader does for the parts joined: its state, the start and the finish. The
+// loop over a part stands in the exported call itself (board), where it needs one copy of the state less.
 pub mod state;
 
 use byte_steps::modes::BYTES;
-use byte_steps::modes::LEVELS;
 use byte_steps::modes::Mode;
 use leaves::limits::MAX_BYTES;
 use leaves::limits::MAX_LEVELS;
@@ -15,20 +15,14 @@ use state::Entry;
 use state::HEAD;
 use state::State;
 use state::Word;
-use state::entry_of;
-use state::level_of;
 use state::mode_of;
 use state::no_entry;
-use state::word_of;
-use turns::moves::Act;
-use turns::moves::sized;
-use turns::turn;
 ghost use mathlib.Core.Path.{_≡_};
-ghost use Prim.Native.Nat.{_<_, ℕ};
+ghost use Prim.Native.Nat.{ℕ};
 ghost use Rattle.byte_steps.specs.Automaton.{verdict};
 ghost use Rattle.pieces.specs.Kept.{judgedOut};
 ghost use Rattle.pieces.specs.Led.{Small, closedOf, ledTo};
-ghost use mathlib.Core.List.{List, [], _++_};
+ghost use mathlib.Core.List.{List, []};
 ghost use Rattle.meaning.specs.Within.{Bytes};
 ghost use Rattle.meaning.specs.Reading.{reading};
 ghost use Rattle.reader.specs.Said.{said};
@@ -58,72 +52,6 @@ pub fn start() -> State
         whole: 1,
         deepest: 0,
         closed: 0,
-    }
-}
-
-// The state after a part. It is worked on in place: what the loop needs at each turn is held beside it, and put back where the part ends.
-pub fn part(mut state: State, bytes: &[u8]) -> State
-    ensures still { λ r. ⌜ (0 < state .closed → r ≡ state) ⌝ }
-    ensures led { λ r. ⌜ ((u : List ℕ) → state ≡ ledTo u → r ≡ ledTo (u ++ now (bytes .entry))) ⌝ }
-{
-    let next = state.next;
-    let mut mode = mode_of(next);
-    if 0 < state.closed {
-        return state;
-    }
-    // from a state that no part leads to
-    if LEVELS < state.used {
-        return state;
-    }
-    if LEVELS < state.used + sized(mode) {
-        return state;
-    }
-    let first = state.top;
-    let mut top = level_of(first);
-    let mut n = state.used;
-    let mut count = state.count;
-    let mut whole = state.whole;
-    let mut deepest = state.deepest;
-    let mut i = 0;
-    loop {
-        let t = turn(bytes, i, mode, top, n, count, whole, deepest);
-        let act = t.act;
-        count = t.count;
-        whole = t.whole;
-        deepest = t.deepest;
-        i = t.i;
-        match act {
-            Act::Rest => {
-                let last = t.mode;
-                let level = t.top;
-                state.top = entry_of(level);
-                state.next = word_of(last);
-                state.used = n;
-                state.count = count;
-                state.whole = whole;
-                state.deepest = deepest;
-                return state;
-            }
-            Act::Stay => {
-                mode = t.mode;
-                top = t.top;
-            }
-            Act::Push => {
-                let k = n as usize;
-                state.levels[k] = entry_of(top);
-                n += 1;
-                mode = t.mode;
-                top = t.top;
-            }
-            Act::Pop => {
-                n -= 1;
-                let k = n as usize;
-                let entry = state.levels[k];
-                state.levels[k] = no_entry();
-                top = level_of(entry);
-                mode = t.mode;
-            }
-        }
     }
 }
 
