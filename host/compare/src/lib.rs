@@ -698,17 +698,21 @@ pub mod pieces {
         }
     }
 
-    impl<const FAULT: u8> Reader for pieces::Reader<FAULT> {
+    /// The fast reader with one fault, or with none.
+    #[derive(Clone, PartialEq, Eq)]
+    struct Faulty<const FAULT: u8>(pieces::Reader);
+
+    impl<const FAULT: u8> Reader for Faulty<FAULT> {
         fn start() -> Self {
-            Self::start()
+            Faulty(pieces::Reader::start(FAULT))
         }
 
         fn part(&mut self, part: &[u8]) {
-            self.part(part);
+            self.0.part(part);
         }
 
         fn finish(&mut self) -> Outcome {
-            match self.finish() {
+            match self.0.finish() {
                 Ok(accepted) => Outcome::answer(accepted.length, accepted.depth as usize),
                 Err(refusal) => Outcome::refusal(refusal.number, refusal.place),
             }
@@ -738,7 +742,7 @@ pub mod pieces {
 
     /// The fast reader: right with fault 0, else a wrong model.
     pub fn fast<const FAULT: u8>(fed: &Fed) -> AllFinished {
-        feed::<pieces::Reader<FAULT>>(fed)
+        feed::<Faulty<FAULT>>(fed)
     }
 
     pub const WRONG: [WrongFeeds; 27] = [

@@ -672,7 +672,7 @@ fn proved_pieces<const SIZE: usize>(input: &Input, _: &mut [u8]) -> bool {
 
 #[inline(never)]
 fn rust_pieces<const SIZE: usize>(input: &Input, _: &mut [u8]) -> bool {
-    let mut reader = fast::pieces::Reader::<0>::start();
+    let mut reader = fast::pieces::Reader::start(0);
     for part in input.first.chunks(SIZE) {
         reader.part(part);
     }

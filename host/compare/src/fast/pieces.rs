@@ -3,7 +3,8 @@
 //! are only counted. What the finish says is decided there: a root that is cut short comes before
 //! whatever was met inside it.
 //!
-//! `Reader::<0>` is right. Any other number puts one fault in (see `fault`), as in `fast`.
+//! A reader that starts with 0 is right. Any other number puts one fault in (see `fault`). It is no constant, as it is in `fast`: nothing is
+//! measured here but the stack, and 28 copies of it took the compiler long.
 
 use super::{past_ascii, Accepted, Refusal};
 use super::{ARRAY, FUNCTION, MAP, MAX_BYTES, MAX_LEVELS, RECORD, SYMBOL, VARIABLE};
@@ -91,7 +92,9 @@ enum Next {
 }
 
 #[derive(Clone, PartialEq, Eq)]
-pub struct Reader<const FAULT: u8> {
+pub struct Reader {
+    /// 0, or the fault of a wrong model
+    wrong: u8,
     next: Next,
     /// the bytes that were taken, and all that were there
     place: usize,
@@ -120,9 +123,10 @@ impl PartialEq for Aside {
 
 impl Eq for Aside {}
 
-impl<const FAULT: u8> Reader<FAULT> {
-    pub fn start() -> Self {
+impl Reader {
+    pub fn start(wrong: u8) -> Self {
         Reader {
+            wrong,
             next: Next::First,
             place: 0,
             count: 0,
@@ -138,27 +142,27 @@ impl<const FAULT: u8> Reader<FAULT> {
     }
 
     pub fn part(&mut self, part: &[u8]) {
-        if self.answer.is_some() && FAULT != COUNTED_AFTER {
-            if FAULT == AFTER_NOTED {
+        if self.answer.is_some() && self.wrong != COUNTED_AFTER {
+            if self.wrong == AFTER_NOTED {
                 self.noted += part.len();
             }
             return;
         }
         self.cut(part);
-        let part = match FAULT {
+        let part = match self.wrong {
             FIRST_2048 => &part[..part.len().min(MAX_BYTES - self.count)],
             _ => part,
         };
         let before = (self.count, self.fault);
         self.count = self.count.saturating_add(part.len());
         if self.count > MAX_BYTES {
-            match FAULT {
+            match self.wrong {
                 EIGHT_LAST | EIGHT_BY_PART => (),
                 COUNT_OF_16_BITS => self.count %= 65_536,
                 _ => return self.too_long(),
             }
         }
-        let mut rest = match FAULT {
+        let mut rest = match self.wrong {
             EIGHT_LAST => &part[..part.len().min(MAX_BYTES.saturating_sub(before.0))],
             _ => part,
         };
@@ -172,7 +176,7 @@ impl<const FAULT: u8> Reader<FAULT> {
                 }
             }
         }
-        match (FAULT, self.next, &mut self.fault) {
+        match (self.wrong, self.next, &mut self.fault) {
             (PLACES_IN_PART, _, Some(fault)) if before.1.is_none() => {
                 fault.place = fault.place.saturating_sub(before.0 as u32)
             }
@@ -190,7 +194,7 @@ impl<const FAULT: u8> Reader<FAULT> {
             count: MAX_BYTES + 1,
             noted: self.noted,
             aside: self.aside,
-            ..Self::start()
+            ..Self::start(self.wrong)
         };
     }
 
@@ -198,7 +202,7 @@ impl<const FAULT: u8> Reader<FAULT> {
     #[inline(always)]
     fn cut(&mut self, part: &[u8]) {
         if part.is_empty() {
-            match FAULT {
+            match self.wrong {
                 EMPTY_FINISHES => _ = self.finish(),
                 EMPTY_COUNTED => self.count += 1,
                 EMPTY_NOTED => self.noted = 1,
@@ -206,7 +210,7 @@ impl<const FAULT: u8> Reader<FAULT> {
             }
             return;
         }
-        match (FAULT, &mut self.next) {
+        match (self.wrong, &mut self.next) {
             (EIGHT_BY_PART, _) => self.aside.0 |= (part.len() > MAX_BYTES) as usize,
             (SIZE_FORGOTTEN, Next::High(low)) => *low = 0,
             (NUMBER_FORGOTTEN, next @ Next::SecondOfCount(_)) => *next = Next::Count,
@@ -219,7 +223,7 @@ impl<const FAULT: u8> Reader<FAULT> {
                 self.levels[self.open - 1].primitives = true
             }
             (LENGTH_OF_LAST, _) => self.aside.0 = part.len(),
-            (LAST_ALONE, _) => *self = Self::start(),
+            (LAST_ALONE, _) => *self = Self::start(self.wrong),
             (CUT_NOTED, _) => self.noted = self.count,
             _ => (),
         }
@@ -267,7 +271,7 @@ impl<const FAULT: u8> Reader<FAULT> {
         let at = self.place;
         let level = self.open as u32 + 1;
         let packed = matches!(byte, 96..=125);
-        let levels = MAX_LEVELS - (FAULT == FIFTEEN_ENTRIES && byte >= 64 && !packed) as u32;
+        let levels = MAX_LEVELS - (self.wrong == FIFTEEN_ENTRIES && byte >= 64 && !packed) as u32;
         if !matches!(byte, 0..=36 | ARRAY..=VARIABLE | 96..=125) {
             return self.refuse(NOT_ASSIGNED, at);
         }
@@ -482,15 +486,15 @@ impl<const FAULT: u8> Reader<FAULT> {
     }
 
     pub fn finish(&mut self) -> Answer {
-        if FAULT == FINISH_NOTED {
+        if self.wrong == FINISH_NOTED {
             self.noted += 1;
         }
         match self.answer {
-            Some(answer) if FAULT != COUNTED_AFTER => answer,
+            Some(answer) if self.wrong != COUNTED_AFTER => answer,
             _ => {
                 let answer = self.judged();
-                if FAULT == STARTS_ANEW {
-                    *self = Self::start();
+                if self.wrong == STARTS_ANEW {
+                    *self = Self::start(self.wrong);
                 } else {
                     self.answer = Some(answer);
                 }
@@ -507,7 +511,7 @@ impl<const FAULT: u8> Reader<FAULT> {
                 place: place as u32,
             })
         };
-        match FAULT {
+        match self.wrong {
             REFUSES_EVERYTHING => return refused(CUT_SHORT, 0),
             ONE_FIXED_ANSWER => {
                 return Ok(Accepted {
@@ -517,11 +521,11 @@ impl<const FAULT: u8> Reader<FAULT> {
             }
             _ => (),
         }
-        let too_long = match FAULT {
+        let too_long = match self.wrong {
             EIGHT_BY_PART => self.aside.0 > 0,
             _ => self.count > MAX_BYTES,
         };
-        if too_long && FAULT != EIGHT_LAST {
+        if too_long && self.wrong != EIGHT_LAST {
             return refused(INPUT_TOO_LONG, MAX_BYTES);
         }
         // a first byte that is refused has no payload that could be cut
@@ -529,12 +533,12 @@ impl<const FAULT: u8> Reader<FAULT> {
         let ends = self.whole.is_some_and(|whole| whole <= self.count);
         let cut = !refused_at_once && !ends;
         match self.fault {
-            Some(fault) if FAULT == INSIDE_FIRST => return Err(fault),
+            Some(fault) if self.wrong == INSIDE_FIRST => return Err(fault),
             Some(fault) if !cut => return Err(fault),
             _ => (),
         }
         if cut {
-            let place = match FAULT {
+            let place = match self.wrong {
                 CUT_AT_THE_END => self.count,
                 CUT_AT_THE_INNERMOST if self.open > 0 => self.levels[self.open - 1].at,
                 _ => 0,
@@ -548,7 +552,7 @@ impl<const FAULT: u8> Reader<FAULT> {
         if too_long {
             return refused(INPUT_TOO_LONG, MAX_BYTES);
         }
-        let length = match FAULT {
+        let length = match self.wrong {
             LENGTH_OF_LAST => self.aside.0,
             _ => self.count,
         };
