@@ -138,13 +138,15 @@ pub extern "C" fn shiulbart_pieces_part(mut state: State, part: &[u8]) -> State
     let mut whole = state.whole;
     let mut deepest = state.deepest;
     let mut i = 0;
+    let mut fault = 0;
     loop {
-        let t = turn(part, i, mode, top, n, count, whole, deepest);
+        let t = turn(part, i, mode, top, n, count, whole, deepest, fault);
         let act = t.act;
         count = t.count;
         whole = t.whole;
         deepest = t.deepest;
         i = t.i;
+        fault = t.fault;
         match act {
             Act::Rest => {
                 let last = t.mode;

@@ -22,8 +22,8 @@ use payloads::first::PAST_PRIMITIVES;
 use payloads::first::PRIMITIVES;
 use payloads::first::SHORT_BLANKS;
 ghost use mathlib.Core.Path.{_≡_};
-ghost use Prim.Native.Nat.{_+_, _<_, _≤_};
-ghost use Rattle.byte_steps.specs.Automaton.{afterChild, blankTaken, charFirst, charTaken, countMore, countTaken, firstTaken, itemDue, lengthDue, lengthMore, lengthTaken, more, shapeDue, sizeTaken, taken, textDone, textDue, textTaken};
+ghost use Prim.Native.Nat.{_+_, _*_, _<_, _≤_};
+ghost use Rattle.byte_steps.specs.Automaton.{afterChild, blankTaken, charFirst, charTaken, countMore, countTaken, firstTaken, itemDue, lengthDue, lengthMore, lengthTaken, more, shapeDue, sizeTaken, textDone, textDue, textTaken};
 ghost use lib.Dec.{leb};
 ghost use Rattle.meaning.specs.Rules.{_⇒_∣_};
 ghost use Rattle.meaning.specs.Limits.{maxBytes, maxLevels};
@@ -67,7 +67,7 @@ pub fn after_child(top: Level, b: u8) -> Level
 }
 
 // A shape's first byte at a place, with so many levels open.
-fn first_taken(top: Level, n: u16, deepest: u16, at: u16, b: u8) -> Took
+pub fn first_taken(top: Level, n: u16, deepest: u16, at: u16, b: u8) -> Took
     requires { ⌜ (n ≤ maxLevels) × (at < maxBytes) ⌝ }
     ensures { λ r. ⌜ r ≡ firstTaken top n deepest at b (firstSaid (classOf b)) ⌝ }
 {
@@ -128,12 +128,12 @@ fn first_taken(top: Level, n: u16, deepest: u16, at: u16, b: u8) -> Took
     }
 }
 
-// The size is read; the payload starts at next.
-fn size_taken(top: Level, kind: Kind, at: u16, next: u16, size: u16) -> Mode
-    requires { ⌜ (next ≤ maxBytes) × (size < 65536) ⌝ }
-    ensures { λ r. ⌜ r ≡ sizeTaken top kind at next size ⌝ }
+// The size's second byte; the payload starts at next.
+pub fn size_taken(top: Level, kind: Kind, at: u16, next: u16, low: u8, high: u8) -> Mode
+    requires { ⌜ next ≤ maxBytes ⌝ }
+    ensures { λ r. ⌜ r ≡ sizeTaken top kind at next (low + 256 * high) ⌝ }
 {
-    let stop = next as u32 + size as u32;
+    let stop = next as u32 + (low as u32 + 256 * high as u32);
     if (top.stop as u32) < stop {
         return Mode::Faulty {
             number: CUT_SHORT as u16,
@@ -286,7 +286,7 @@ fn char_first(b: u8) -> Char
 }
 
 // A character's byte: its first, or one of those that it asks for.
-fn char_taken(more: u8, low: u8, high: u8, b: u8) -> Char
+pub fn char_taken(more: u8, low: u8, high: u8, b: u8) -> Char
     ensures { λ r. ⌜ r ≡ charTaken more low high b ⌝ }
 {
     if more == 0 {
@@ -313,7 +313,7 @@ fn char_taken(more: u8, low: u8, high: u8, b: u8) -> Char
 }
 
 // A text after a byte, of which so many are left with this one.
-fn text_taken(top: Level, from: u16, left: u16, next: u16, char: Char) -> Mode
+pub fn text_taken(top: Level, from: u16, left: u16, next: u16, char: Char) -> Mode
     ensures { λ r. ⌜ r ≡ textTaken top from left next char ⌝ }
 {
     match char {
@@ -371,7 +371,7 @@ fn more_of(items: Items) -> u16
 }
 
 // The second byte of a long Variable's number.
-fn blank_taken(at: u16, low: u8, b: u8) -> Mode
+pub fn blank_taken(at: u16, low: u8, b: u8) -> Mode
     ensures { λ r. ⌜ r ≡ blankTaken at low b ⌝ }
 {
     if b == 0 {
@@ -387,7 +387,7 @@ fn blank_taken(at: u16, low: u8, b: u8) -> Mode
 }
 
 // A count's first byte, and its second.
-fn count_taken(top: Level, deepest: u16, at: u16, b: u8) -> Took
+pub fn count_taken(top: Level, deepest: u16, at: u16, b: u8) -> Took
     requires { ⌜ at < maxBytes ⌝ }
     ensures { λ r. ⌜ r ≡ countTaken top deepest at b ⌝ }
 {
@@ -406,7 +406,7 @@ fn count_taken(top: Level, deepest: u16, at: u16, b: u8) -> Took
     }
 }
 
-fn count_more(top: Level, deepest: u16, from: u16, low: u8, b: u8) -> Took
+pub fn count_more(top: Level, deepest: u16, from: u16, low: u8, b: u8) -> Took
     ensures { λ r. ⌜ r ≡ countMore top deepest from low b ⌝ }
 {
     let items = top.items;
@@ -439,7 +439,7 @@ fn count_more(top: Level, deepest: u16, from: u16, low: u8, b: u8) -> Took
 }
 
 // A text length's first byte, and its second.
-fn length_taken(top: Level, at: u16, b: u8) -> Mode
+pub fn length_taken(top: Level, at: u16, b: u8) -> Mode
     requires { ⌜ at < maxBytes ⌝ }
     ensures { λ r. ⌜ r ≡ lengthTaken top at b ⌝ }
 {
@@ -449,7 +449,7 @@ fn length_taken(top: Level, at: u16, b: u8) -> Mode
     leb_more(top, at, Mode::LengthMore { at, low: b })
 }
 
-fn length_more(top: Level, from: u16, low: u8, next: u16, b: u8) -> Mode
+pub fn length_more(top: Level, from: u16, low: u8, next: u16, b: u8) -> Mode
     requires { ⌜ next ≤ maxBytes ⌝ }
     ensures { λ r. ⌜ r ≡ lengthMore top from low next b ⌝ }
 {
@@ -466,93 +466,4 @@ fn length_more(top: Level, from: u16, low: u8, next: u16, b: u8) -> Mode
         };
     }
     text_due(top, from, next, low as u16 % 128 + 128 * b as u16)
-}
-
-// A byte at a place, by what it is.
-pub fn taken(mode: Mode, top: Level, n: u16, deepest: u16, at: u16, b: u8) -> Took
-    requires { ⌜ (n ≤ maxLevels) × (at < maxBytes) ⌝ }
-    ensures { λ r. ⌜ r ≡ taken mode top n deepest at b ⌝ }
-{
-    match mode {
-        Mode::Head => first_taken(top, n, deepest, at, b),
-        Mode::SizeLow { kind, at: from } => Took {
-            mode: Mode::SizeHigh {
-                kind,
-                at: from,
-                low: b,
-            },
-            top,
-            deepest,
-        },
-        Mode::SizeHigh {
-            kind,
-            at: from,
-            low,
-        } => Took {
-            mode: size_taken(top, kind, from, at + 1, low as u16 + 256 * b as u16),
-            top,
-            deepest,
-        },
-        Mode::Opening {
-            kind,
-            at: from,
-            stop,
-        } => Took {
-            mode: Mode::Opening {
-                kind,
-                at: from,
-                stop,
-            },
-            top,
-            deepest,
-        },
-        Mode::Count => count_taken(top, deepest, at, b),
-        Mode::CountMore { at: from, low } => count_more(top, deepest, from, low, b),
-        Mode::Length => Took {
-            mode: length_taken(top, at, b),
-            top,
-            deepest,
-        },
-        Mode::LengthMore { at: from, low } => Took {
-            mode: length_more(top, from, low, at + 1, b),
-            top,
-            deepest,
-        },
-        Mode::Letters {
-            from,
-            left,
-            more,
-            low,
-            high,
-        } => Took {
-            mode: text_taken(top, from, left, at + 1, char_taken(more, low, high, b)),
-            top,
-            deepest,
-        },
-        Mode::BlankLow { at: from } => Took {
-            mode: Mode::BlankHigh { at: from, low: b },
-            top,
-            deepest,
-        },
-        Mode::BlankHigh { at: from, low } => Took {
-            mode: blank_taken(from, low, b),
-            top,
-            deepest: larger(deepest, n + 1),
-        },
-        Mode::Between => Took {
-            mode: Mode::Between,
-            top,
-            deepest,
-        },
-        Mode::Done => Took {
-            mode: Mode::Done,
-            top,
-            deepest,
-        },
-        Mode::Faulty { number, place } => Took {
-            mode: Mode::Faulty { number, place },
-            top,
-            deepest,
-        },
-    }
 }

@@ -1,10 +1,9 @@
 -- The turns of the loop over a part's bytes.
 --     stay-leads        bytes are taken, and the levels laid by stay
 --     byte-leads        one byte
---     rest-leads        no byte is left
---     over-leads        too many came
+--     wait-leads        no byte can be taken
 --     skip-leads        nothing is read any more
---     move-leads        a step without a byte
+--     between-leads, opening-leads     a step without a byte
 --     items-leads       items that lie whole in the part
 --     shape-leads       a shape that does
 --     letters-go, letters-end     well-formed characters of a text
@@ -24,6 +23,7 @@ use Rattle.meaning.specs.Utf8.{charSize, charsSize, wellFormed}
 use Rattle.meaning.proofs.Rules.{rule}
 use Rattle.meaning.proofs.Utf8.{char-le}
 use Rattle.meaning.proofs.Window.{window-length}
+use Rattle.payloads.specs.declared.first.Kind.{Kind}
 use Rattle.byte_steps.specs.declared.modes.Items.{Items}
 use Rattle.byte_steps.specs.declared.modes.Items.the-variants.{Plain, Bare, Fields, Texts}
 use Rattle.byte_steps.specs.declared.modes.Level.{Level}
@@ -36,10 +36,10 @@ use Rattle.turns.specs.declared.moves.Moved.{Moved}
 use Rattle.turns.specs.declared.items.Item.the-variants.{Whole}
 use Rattle.turns.specs.declared.items.Run as Taken
 use Rattle.byte_steps.specs.Automaton.{taken, entered, step, fed, run, Run, afterChild, withDue, textDone, settle}
-use Rattle.turns.specs.Moves.{resting, sized, movedBy}
-use Rattle.turns.specs.Leads.{bare, named, itemMode, idle, countedTo, turned, stayed, rested, onward, Lighter, Leads, WindowEnd, ShapeFed, RunFed}
+use Rattle.turns.specs.Moves.{resting, sized, betweenMoved, openingMoved}
+use Rattle.turns.specs.Leads.{bare, named, itemMode, idle, countedTo, turned, stayed, rested, waited, onward, Lighter, Leads, WindowEnd, ShapeFed, RunFed}
 use Rattle.turns.proofs.Inside.{letters-on, letters-out}
-use Rattle.turns.proofs.Moving.{enter-rest, moves, weigh, weight-most, Light, goOn, fair-taken, fed-over, done-ok}
+use Rattle.turns.proofs.Moving.{enter-rest, Moves, Lights, Light, between-moves, opening-moves, between-light, opening-light, weight-most, goOn, fair-taken, fed-over, done-ok}
 
 step-few : (stack : List Level) (top : Level) (m : Mode) (count whole deepest b : ℕ) (t : Took) → count < maxBytes → t ≡ taken m top (length stack) deepest count b
     → step (run stack top m count whole deepest) b ≡ entered (t .mode) stack (t .top) (count + 1) whole (t .deepest)
@@ -101,34 +101,40 @@ counts (b ∷ w) stack m top count whole deepest h = go (leb maxBytes count) ref
         (rest (count + 1) ∙ ap (λ x. run stack top m x whole deepest) (more _ refl k))
 
 module _ {s : List ℕ} {i : ℕ} {m : Mode} {top : Level} {n count whole deepest : ℕ} where
-  pub stay-leads : (m′ : Mode) (top′ : Level) (count′ deepest′ j : ℕ) → resting m ≡ true → i < j → j ≤ length s → n + sized m′ ≤ maxLevels
+  pub stay-leads : {fault : ℕ} (m′ : Mode) (top′ : Level) (count′ deepest′ j : ℕ) → resting m ≡ true → i < j → j ≤ length s → n + sized m′ ≤ maxLevels
       → ((stack : List Level) → length stack ≡ n → fed (run stack top m count whole deepest) (drop i s) ≡ fed (entered m′ stack top′ count′ whole deepest′) (drop j s))
-      → Leads s i m top n count whole deepest (stayed m′ top′ count′ whole deepest′ j)
+      → Leads s i m top n count whole deepest (stayed m′ top′ count′ whole deepest′ j fault)
   stay-leads m′ top′ count′ deepest′ j r h k f e = record {
     same = λ stack l. rw (enter-rest m stack top count whole deepest r) (e stack l);
     within = k;
     lighter = (omega (arith, weight-most m′ n), f);
   }
 
-  pub byte-leads : (t : Took) → resting m ≡ true → i < length s → count < maxBytes → n + sized m ≤ maxLevels → t ≡ taken m top n deepest count (getD s i 0)
-      → Leads s i m top n count whole deepest (stayed (t .mode) (t .top) (count + 1) whole (t .deepest) (i + 1))
+  pub byte-leads : {fault : ℕ} → resting m ≡ true → i < length s → count < maxBytes → n + sized m ≤ maxLevels
+      → let t = taken m top n deepest count (getD s i 0) in Leads s i m top n count whole deepest (stayed (t .mode) (t .top) (count + 1) whole (t .deepest) (i + 1) fault)
   unfolding fed
-  byte-leads t r h k f e =
-      stay-leads (t .mode) (t .top) (count + 1) (t .deepest) (i + 1) r (omega arith) (omega arith) (rw e (fair-taken m top n deepest count (getD s i 0) f))
+  byte-leads r h k f =
+      let t = taken m top n deepest count (getD s i 0) in
+      stay-leads (t .mode) (t .top) (count + 1) (t .deepest) (i + 1) r (omega arith) (omega arith) (fair-taken m top n deepest count (getD s i 0) f)
       λ stack l. rw (drop-cons s i 0 h, add-one i)
-      (ap (λ q. fed q (drop (suc i) s)) (step-few stack top m count whole deepest (getD s i 0) t k (e ∙ ap (λ q. taken m top q deepest count (getD s i 0)) (sym l))))
+      (ap (λ q. fed q (drop (suc i) s)) (step-few stack top m count whole deepest (getD s i 0) t k (ap (λ q. taken m top q deepest count (getD s i 0)) (sym l))))
 
-  pub rest-leads : resting m ≡ true → length s ≤ i → i ≤ length s → n + sized m ≤ maxLevels → Leads s i m top n count whole deepest (rested m top count whole deepest i)
-  rest-leads r h k f = record { same = λ stack l. refl; within = k; lighter = (r, h, f) }
+  at-end : resting m ≡ true → length s ≤ i → i ≤ length s → n + sized m ≤ maxLevels → Leads s i m top n count whole deepest (rested m top count whole deepest i)
+  at-end r h k f = record { same = λ stack l. refl; within = k; lighter = (r, h, f) }
 
-  pub over-leads : resting m ≡ true → i < length s → maxBytes ≤ count → n + sized m ≤ maxLevels → Leads s i m top n count whole deepest (rested m top (maxBytes + 1) whole deepest (length s))
+  too-many : resting m ≡ true → i < length s → maxBytes ≤ count → n + sized m ≤ maxLevels → Leads s i m top n count whole deepest (rested m top (maxBytes + 1) whole deepest (length s))
   unfolding fed
-  over-leads r h k f = record {
+  too-many r h k f = record {
     same = λ stack l. rw (enter-rest m stack top count whole deepest r, enter-rest m stack top (maxBytes + 1) whole deepest r, drop-of-length-le s {i = length s} (omega arith), drop-cons s i 0 h)
         (fed-over (run stack top m count whole deepest) (getD s i 0) (drop (suc i) s) k);
     within = omega arith;
     lighter = (r, omega arith, f);
   }
+
+  pub wait-leads : resting m ≡ true → i ≤ length s → (i < length s → maxBytes ≤ count) → n + sized m ≤ maxLevels → Leads s i m top n count whole deepest (waited (length s) m top count whole deepest i)
+  wait-leads r k o f =
+      rule (Leads s i m top n count whole deepest) (leb (length s) i) _ _ (λ e. at-end r (leb-true (length s) i e) k f) λ e.
+      let h = leb-false (length s) i e in too-many r h (o h) f
 
   pub skip-leads : idle m ≡ true → i ≤ length s → n ≤ maxLevels → Leads s i m top n count whole deepest (rested m top (countedTo count (length s - i)) whole deepest (length s))
   unfolding fed
@@ -139,33 +145,43 @@ module _ {s : List ℕ} {i : ℕ} {m : Mode} {top : Level} {n count whole deepes
     lighter = (q .0, omega arith, omega (arith, q .1));
   }
 
-  pub move-leads : (d : Moved) → resting m ≡ false → n + sized m ≤ maxLevels → i ≤ length s → d ≡ movedBy m top n count whole deepest
-      → Leads s i m top n count whole deepest (turned (d .mode) (d .top) count (d .whole) (d .deepest) i (d .act))
-  move-leads d r f h e = record {
-    same = λ stack l. ap (λ q. fed q (drop i s)) (moves m stack top count whole deepest r ∙ rw (l, sym e) (on stack (d .act)));
+  move-leads : {fault : ℕ} (d : Moved) → ((stack : List Level) → length stack ≡ n → Moves stack top count (entered m stack top count whole deepest) d) → Lights m n d → i ≤ length s
+      → Leads s i m top n count whole deepest (turned (d .mode) (d .top) count (d .whole) (d .deepest) i fault (d .act))
+  move-leads {fault = fault} d f l h = record {
+    same = λ stack z. ap (λ q. fed q (drop i s)) (f stack z ∙ on stack (d .act));
     within = h;
-    lighter = light (d .act) (rw e (weigh m top n count whole deepest r f));
+    lighter = light (d .act) l;
   }
     where
-      on : (stack : List Level) (a : Act) → goOn d stack top count a ≡ onward (turned (d .mode) (d .top) count (d .whole) (d .deepest) i (d .act)) stack top a
+      on : (stack : List Level) (a : Act) → goOn d stack top count a ≡ onward (turned (d .mode) (d .top) count (d .whole) (d .deepest) i fault (d .act)) stack top a
       on stack Rest = refl
       on stack Stay = refl
       on stack Push = refl
       on stack Pop = refl
 
-      light : (a : Act) → Light m n (d .mode) a → Lighter s i m n (turned (d .mode) (d .top) count (d .whole) (d .deepest) i (d .act)) a
+      light : (a : Act) → Light m n (d .mode) a → Lighter s i m n (turned (d .mode) (d .top) count (d .whole) (d .deepest) i fault (d .act)) a
       light Rest l = absurd l
       light Stay l = (omega (arith, l .0), l .1)
       light Push l = (l .0, omega (arith, l .1), l .2)
       light Pop l = (l .0, omega (arith, l .1), l .2)
+
+module _ {s : List ℕ} {i : ℕ} {top : Level} {n count whole deepest fault : ℕ} (d : Moved) (h : i ≤ length s) where
+  pub between-leads : n ≤ maxLevels → d ≡ betweenMoved top n count whole deepest → Leads s i Between top n count whole deepest (turned (d .mode) (d .top) count (d .whole) (d .deepest) i fault (d .act))
+  unfolding entered
+  between-leads f e = move-leads d (λ stack l. rw (e, sym l) (between-moves stack top count whole deepest)) (rw e (between-light top n count whole deepest f)) h
+
+  pub opening-leads : (kind : Kind) (from stop : ℕ) → n + 1 ≤ maxLevels → d ≡ openingMoved kind from stop top n count whole deepest
+      → Leads s i (Opening kind from stop) top n count whole deepest (turned (d .mode) (d .top) count (d .whole) (d .deepest) i fault (d .act))
+  unfolding entered
+  opening-leads kind from stop f e = move-leads d (λ stack l. rw (e, sym l) (opening-moves kind from stop stack top count whole deepest)) (rw e (opening-light kind from stop top n count whole deepest f)) h
 
 -- bytes that lie whole in the part, at a level that is not the input's own
 at-level : (n : ℕ) (P : List Level → Type 0) → 0 < n → ((l : Level) (ls : List Level) → length (l ∷ ls) ≡ n → P (l ∷ ls)) → (stack : List Level) → length stack ≡ n → P stack
 at-level n P h f [] e = absurd (omega arith)
 at-level n P h f (l ∷ ls) e = f l ls e
 
-module _ {s : List ℕ} {i : ℕ} {top : Level} {n count whole deepest end : ℕ} (window : WindowEnd (length s) i (top .stop) count end) (some : 0 < n) where
-  pub shape-leads : (next deep : ℕ) → n ≤ maxLevels → ShapeFed s end i n deepest (Whole next deep) → Leads s i Head top n count whole deepest (stayed Between (afterChild top (getD s i 0)) (count + (next - i)) whole deep next)
+module _ {s : List ℕ} {i : ℕ} {top : Level} {n count whole deepest end fault : ℕ} (window : WindowEnd (length s) i (top .stop) count end) (some : 0 < n) where
+  pub shape-leads : (next deep : ℕ) → n ≤ maxLevels → ShapeFed s end i n deepest (Whole next deep) → Leads s i Head top n count whole deepest (stayed Between (afterChild top (getD s i 0)) (count + (next - i)) whole deep next fault)
   unfolding entered
   shape-leads next deep k h =
       stay-leads Between (afterChild top (getD s i 0)) (count + (next - i)) deep next refl (h .0) (omega (arith, h .1, window .within)) (omega arith)
@@ -173,7 +189,7 @@ module _ {s : List ℕ} {i : ℕ} {top : Level} {n count whole deepest end : ℕ
       λ l ls e. h .2 l ls top count whole e (window .inside (omega (arith, h .0, h .1))) (window .few))
 
   pub items-leads : (m : Mode) (r : Taken.Run) → m ≡ itemMode (top .items) → resting m ≡ true → n + sized m ≤ maxLevels → RunFed (top .items) s end i n (top .due) deepest r → i < r .i
-      → Leads s i m top n count whole deepest (stayed m (withDue top (r .due)) (count + (r .i - i)) whole (r .deepest) (r .i))
+      → Leads s i m top n count whole deepest (stayed m (withDue top (r .due)) (count + (r .i - i)) whole (r .deepest) (r .i) fault)
   items-leads m r e q f h p =
       stay-leads m (withDue top (r .due)) (count + (r .i - i)) (r .deepest) (r .i) q p (omega (arith, h .inside, window .from, window .within)) f
       (at-level n (λ stack. fed (run stack top m count whole deepest) (drop i s) ≡ fed (entered m stack (withDue top (r .due)) (count + (r .i - i)) whole (r .deepest)) (drop (r .i) s)) some
@@ -209,10 +225,10 @@ pub well-le : (s : List ℕ) (i end : ℕ) → end ≤ length s → wellFormed (
 unfolding wellFormed
 well-le s i end h = let l = window-length s i end h in let c = chars-le (length (slice i end s)) (slice i end s) in omega arith
 
-module _ {s : List ℕ} {i : ℕ} {top : Level} {n count whole deepest from left low high end to : ℕ} (k : n ≤ maxLevels) (b : i ≤ end) (h : end ≤ length s) (f : count + (end - i) ≤ maxBytes) (z : end ≤ i + left)
+module _ {s : List ℕ} {i : ℕ} {top : Level} {n count whole deepest from left low high end to fault : ℕ} (k : n ≤ maxLevels) (b : i ≤ end) (h : end ≤ length s) (f : count + (end - i) ≤ maxBytes) (z : end ≤ i + left)
     (e : to ≡ i + wellFormed (slice i end s)) (p : i < to) where
   -- well-formed characters of a text that goes on, and of one that ends with them
-  pub letters-go : to - i < left → Leads s i (Letters from left 0 low high) top n count whole deepest (stayed (Letters from (left - (to - i)) 0 0 0) top (count + (to - i)) whole deepest to)
+  pub letters-go : to - i < left → Leads s i (Letters from left 0 low high) top n count whole deepest (stayed (Letters from (left - (to - i)) 0 0 0) top (count + (to - i)) whole deepest to fault)
   unfolding entered
   letters-go q =
       let w = well-le s i end h in let j : i + (to - i) ≡ to = omega arith in
@@ -220,7 +236,7 @@ module _ {s : List ℕ} {i : ℕ} {top : Level} {n count whole deepest from left
       λ stack l. letters-on s stack top whole deepest i end from left low high count (to - i) b h f (omega arith) (omega arith) q
       ∙ ap (λ x. fed (run stack top (Letters from (left - (to - i)) 0 0 0) (count + (to - i)) whole deepest) (drop x s)) j
 
-  pub letters-end : left ≤ to - i → Leads s i (Letters from left 0 low high) top n count whole deepest (stayed (textDone (top .items) top (count + (to - i))) top (count + (to - i)) whole deepest to)
+  pub letters-end : left ≤ to - i → Leads s i (Letters from left 0 low high) top n count whole deepest (stayed (textDone (top .items) top (count + (to - i))) top (count + (to - i)) whole deepest to fault)
   letters-end q =
       let w = well-le s i end h in let j : i + (to - i) ≡ to = omega arith in
       stay-leads (textDone (top .items) top (count + (to - i))) top (count + (to - i)) deepest to refl p (omega arith) (done-fair n (top .items) top (count + (to - i)) k)

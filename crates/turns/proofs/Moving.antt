@@ -1,7 +1,8 @@
 -- What the code does without a byte is what the automaton does.
---     enter-rest, moves       a state that waits; one step without a byte
---     weigh, fair-moved       a step without a byte is lighter, and keeps room for the payload that is about to open
---     fair-taken              so does a byte
+--     enter-rest                       a mode that waits
+--     between-moves, opening-moves     a step without a byte
+--     between-light, opening-light     it is lighter, and keeps room for the payload that is about to open
+--     fair-taken                       so does a byte
 -- Assumes nothing.
 use mathlib.Core.Path.{_≡_, refl, sym}
 use mathlib.Core.Bool.{Bool, true, false, not, false≢true}
@@ -33,7 +34,7 @@ use Rattle.turns.specs.declared.moves.Act.the-variants.{Rest, Stay, Push
 use Rattle.turns.specs.declared.moves.Moved.{Moved}
 use Rattle.byte_steps.specs.declared.Took.{Took}
 use Rattle.byte_steps.specs.Automaton.{plain, taken, firstTaken, sizeTaken, countTaken, countMore, lengthTaken, lengthMore, textTaken, textDue, textDone, blankTaken, lebFirst, lebSecond, settle, opened, entered, step, fed, run, Run, wholeOf, shapeDue, lengthDue, itemDue, countDue, withDue}
-use Rattle.turns.specs.Moves.{moved, resting, sized, movedBy, betweenMoved, openingMoved, blankDue}
+use Rattle.turns.specs.Moves.{moved, resting, sized, betweenMoved, openingMoved, blankDue}
 use Rattle.turns.specs.Leads.{lastOf, beforeLast, weight}
 
 -- a mode that waits, and is not of a payload that is about to open
@@ -87,10 +88,10 @@ goOn m stack top at Push = entered (m .mode) (top ∷ stack) (m .top) at (m .who
 goOn m stack top at Pop = entered (m .mode) (beforeLast stack) (lastOf stack top) at (m .whole) (m .deepest)
 
 -- a step without a byte
-abbrev Moves : List Level → Level → ℕ → Run → Moved → Type 0
+abbrev pub Moves : List Level → Level → ℕ → Run → Moved → Type 0
 Moves stack top at r m = r ≡ goOn m stack top at (m .act)
 
-between-moves : (stack : List Level) (top : Level) (at whole deepest : ℕ) → Moves stack top at (settle stack top at whole deepest) (betweenMoved top (length stack) at whole deepest)
+pub between-moves : (stack : List Level) (top : Level) (at whole deepest : ℕ) → Moves stack top at (settle stack top at whole deepest) (betweenMoved top (length stack) at whole deepest)
 unfolding settle betweenMoved entered
 between-moves [] top at whole deepest = refl
 between-moves (l ∷ ls) top at whole deepest =
@@ -109,7 +110,7 @@ whole-is : (stack : List Level) (stop whole : ℕ) → wholeOf stack stop whole 
 whole-is [] stop whole = refl
 whole-is (l ∷ ls) stop whole = rw (ne-eqb (suc (length ls)) 0 (λ q. absurd (omega arith)))
 
-opening-moves : (kind : Kind) (from stop : ℕ) (stack : List Level) (top : Level) (at whole deepest : ℕ)
+pub opening-moves : (kind : Kind) (from stop : ℕ) (stack : List Level) (top : Level) (at whole deepest : ℕ)
     → Moves stack top at (opened kind stack top from stop at (wholeOf stack stop whole) deepest) (openingMoved kind from stop top (length stack) at whole deepest)
 unfolding opened openingMoved entered blankDue
 opening-moves Array from stop stack top at whole deepest = rw (whole-is stack stop whole)
@@ -118,23 +119,6 @@ opening-moves Record from stop stack top at whole deepest = rw (whole-is stack s
 opening-moves Function from stop stack top at whole deepest = rw (whole-is stack stop whole) (sym (enter-rest (countDue stop at) _ _ at _ _ (count-quiet stop at .0)))
 opening-moves Symbol from stop stack top at whole deepest = rw (whole-is stack stop whole) (sym (enter-rest (countDue stop at) _ _ at _ _ (count-quiet stop at .0)))
 opening-moves Variable from stop stack top at whole deepest = rw (whole-is stack stop whole) (both (λ r m. r ≡ entered m stack top at (eqb (length stack) 0 ⇒ stop ∣ λ _. whole) deepest) (eqb stop (at + 2)) _ _ _ _ (λ _. refl) (λ _. refl))
-
-pub moves : (m : Mode) (stack : List Level) (top : Level) (at whole deepest : ℕ) → resting m ≡ false → Moves stack top at (entered m stack top at whole deepest) (movedBy m top (length stack) at whole deepest)
-unfolding entered movedBy
-moves Head stack top at whole deepest h = absurd (false≢true (sym h))
-moves (SizeLow kind from) stack top at whole deepest h = absurd (false≢true (sym h))
-moves (SizeHigh kind from low) stack top at whole deepest h = absurd (false≢true (sym h))
-moves (Opening kind from stop) stack top at whole deepest h = opening-moves kind from stop stack top at whole deepest
-moves Count stack top at whole deepest h = absurd (false≢true (sym h))
-moves (CountMore from low) stack top at whole deepest h = absurd (false≢true (sym h))
-moves Length stack top at whole deepest h = absurd (false≢true (sym h))
-moves (LengthMore from low) stack top at whole deepest h = absurd (false≢true (sym h))
-moves (Letters from left n low high) stack top at whole deepest h = absurd (false≢true (sym h))
-moves (BlankLow from) stack top at whole deepest h = absurd (false≢true (sym h))
-moves (BlankHigh from low) stack top at whole deepest h = absurd (false≢true (sym h))
-moves Between stack top at whole deepest h = between-moves stack top at whole deepest
-moves Done stack top at whole deepest h = absurd (false≢true (sym h))
-moves (Faulty number place) stack top at whole deepest h = absurd (false≢true (sym h))
 
 pub weight-most : (m : Mode) (n : ℕ) → weight m n ≤ n + 3
 weight-most Head n = omega arith
@@ -175,7 +159,7 @@ Light m n d Stay = (weight d n < weight m n) × (n + sized d ≤ maxLevels)
 Light m n d Push = (n < maxLevels) × (weight d (n + 1) < weight m n) × (n + 1 + sized d ≤ maxLevels)
 Light m n d Pop = (0 < n) × (weight d (n - 1) < weight m n) × (n - 1 + sized d ≤ maxLevels)
 
-abbrev Lights : Mode → ℕ → Moved → Type 0
+abbrev pub Lights : Mode → ℕ → Moved → Type 0
 Lights m n d = Light m n (d .mode) (d .act)
 
 quiet-stay : (m d : Mode) (n : ℕ) → Quiet d → 0 < weight m n → n ≤ maxLevels → Light m n d Stay
@@ -184,7 +168,7 @@ quiet-stay m d n q h k = let w = weight-rest d n (q .0) in (omega arith, omega (
 quiet-push : (m d : Mode) (n : ℕ) → Quiet d → 0 < weight m n → n < maxLevels → Light m n d Push
 quiet-push m d n q h k = let w = weight-rest d (n + 1) (q .0) in (k, omega arith, omega (arith, q .1))
 
-between-light : (top : Level) (n at whole deepest : ℕ) → n ≤ maxLevels → Lights Between n (betweenMoved top n at whole deepest)
+pub between-light : (top : Level) (n at whole deepest : ℕ) → n ≤ maxLevels → Lights Between n (betweenMoved top n at whole deepest)
 unfolding betweenMoved
 between-light top n at whole deepest h =
     rule (Lights Between n) (eqb n 0) _ _ (λ _. (omega arith, omega arith)) λ p.
@@ -196,7 +180,7 @@ between-light top n at whole deepest h =
     pos zero p = absurd (eqb-false 0 0 p refl)
     pos (suc n) p = omega arith
 
-opening-light : (kind : Kind) (from stop : ℕ) (top : Level) (n at whole deepest : ℕ) → n + 1 ≤ maxLevels → Lights (Opening kind from stop) n (openingMoved kind from stop top n at whole deepest)
+pub opening-light : (kind : Kind) (from stop : ℕ) (top : Level) (n at whole deepest : ℕ) → n + 1 ≤ maxLevels → Lights (Opening kind from stop) n (openingMoved kind from stop top n at whole deepest)
 unfolding openingMoved
 opening-light Array from stop top n at whole deepest h = (omega arith, omega arith, omega arith)
 opening-light Map from stop top n at whole deepest h = (omega arith, omega arith, omega arith)
@@ -204,23 +188,6 @@ opening-light Record from stop top n at whole deepest h = quiet-push (Opening Re
 opening-light Function from stop top n at whole deepest h = quiet-push (Opening Function from stop) (countDue stop at) n (count-quiet stop at) (omega arith) (omega arith)
 opening-light Symbol from stop top n at whole deepest h = quiet-push (Opening Symbol from stop) (countDue stop at) n (count-quiet stop at) (omega arith) (omega arith)
 opening-light Variable from stop top n at whole deepest h = quiet-stay (Opening Variable from stop) (blankDue from stop at) n (blank-quiet from stop at) (omega arith) (omega arith)
-
-pub weigh : (m : Mode) (top : Level) (n at whole deepest : ℕ) → resting m ≡ false → n + sized m ≤ maxLevels → Lights m n (movedBy m top n at whole deepest)
-unfolding movedBy
-weigh Head top n at whole deepest h k = absurd (false≢true (sym h))
-weigh (SizeLow kind from) top n at whole deepest h k = absurd (false≢true (sym h))
-weigh (SizeHigh kind from low) top n at whole deepest h k = absurd (false≢true (sym h))
-weigh (Opening kind from stop) top n at whole deepest h k = opening-light kind from stop top n at whole deepest k
-weigh Count top n at whole deepest h k = absurd (false≢true (sym h))
-weigh (CountMore from low) top n at whole deepest h k = absurd (false≢true (sym h))
-weigh Length top n at whole deepest h k = absurd (false≢true (sym h))
-weigh (LengthMore from low) top n at whole deepest h k = absurd (false≢true (sym h))
-weigh (Letters from left j low high) top n at whole deepest h k = absurd (false≢true (sym h))
-weigh (BlankLow from) top n at whole deepest h k = absurd (false≢true (sym h))
-weigh (BlankHigh from low) top n at whole deepest h k = absurd (false≢true (sym h))
-weigh Between top n at whole deepest h k = between-light top n at whole deepest (omega arith)
-weigh Done top n at whole deepest h k = absurd (false≢true (sym h))
-weigh (Faulty number place) top n at whole deepest h k = absurd (false≢true (sym h))
 
 -- a byte keeps room for a payload that is about to open
 pub record Ok (n : ℕ) (m : Mode) : Type 0 where

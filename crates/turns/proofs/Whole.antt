@@ -1,7 +1,7 @@
 -- What lies whole in a window of a part, as the code takes it.
 --     short-walk, shape-whole                   a shape: of one byte, and any
 --     bare-whole, field-whole, text-whole       an item of a list
---     run-none, run-more                        items one after the other
+--     run-none, run-fault, run-more             items one after the other
 -- Assumes nothing.
 use mathlib.Core.Path.{_≡_, refl, ap, _∙_}
 use mathlib.Core.Bool.{Bool, true, false}
@@ -53,7 +53,7 @@ after-same at stop due b items e = go (primitive b) refl
     go false p = rw p (ap (λ x. level at stop due x) e)
 
 pub bare-whole : (s : List ℕ) (end at n deepest : ℕ) (r : Item) → ShapeFed s end at n deepest r → ItemFed Bare s end at n deepest r
-bare-whole s end at n deepest Cut h = h
+bare-whole s end at n deepest (Cut fault) h = h
 bare-whole s end at n deepest (Whole next deep) h = (
   h .0,
   h .1,
@@ -70,7 +70,7 @@ text-whole s end at n deepest start next t b =
 
 pub field-whole : (s : List ℕ) (end at n deepest start mid : ℕ) (r : Item) → textAt s end at ≡ Text.Whole start mid → end ≤ length s → ShapeFed s end mid n deepest r → ItemFed Fields s end at n deepest r
 unfolding entered shapeDue
-field-whole s end at n deepest start mid Cut t b h = h
+field-whole s end at n deepest start mid (Cut fault) t b h = h
 field-whole s end at n deepest start mid (Whole next deep) t b h =
     let p = text-spans s end at start mid t b in (
       omega (arith, p .0, h .0),
@@ -91,12 +91,16 @@ item-due Bare top at h = rw (lt-leb (top .stop) at h)
 item-due Fields top at h = rw (lt-leb (top .stop) at h)
 item-due Texts top at h = rw (lt-leb (top .stop) at h)
 
-abbrev taken : ℕ → ℕ → ℕ → Taken.Run
-taken i due deepest = record { i = i; due = due; deepest = deepest }
+abbrev taken : ℕ → ℕ → ℕ → ℕ → Taken.Run
+taken i due deepest fault = record { i = i; due = due; deepest = deepest; fault = fault }
+
+-- whatever fault is known of
+pub run-fault : {items : Items} {s : List ℕ} {end at n due deepest i d deep f : ℕ} (fault : ℕ) → RunFed items s end at n due deepest (taken i d deep f) → RunFed items s end at n due deepest (taken i d deep fault)
+run-fault fault r = record { from = r .from; inside = r .inside; fewer = r .fewer; same = r .same }
 
 -- none yet
-pub run-none : (items : Items) (s : List ℕ) (end at n due deepest : ℕ) → RunFed items s end at n due deepest (taken at due deepest)
-run-none items s end at n due deepest = record {
+pub run-none : (items : Items) (s : List ℕ) (end at n due deepest fault : ℕ) → RunFed items s end at n due deepest (taken at due deepest fault)
+run-none items s end at n due deepest fault = record {
   from = omega arith;
   inside = omega arith;
   fewer = omega arith;
@@ -104,10 +108,10 @@ run-none items s end at n due deepest = record {
 }
 
 -- one more
-pub run-more : (items : Items) (s : List ℕ) (end at n due deepest i d deep next deeper : ℕ) → RunFed items s end at n due deepest (taken i d deep) → 0 < d
-    → ItemFed items s end i n deep (Whole next deeper) → next < end → RunFed items s end at n due deepest (taken next (d - 1) deeper)
+pub run-more : (items : Items) (s : List ℕ) (end at n due deepest i d deep fault next deeper : ℕ) → RunFed items s end at n due deepest (taken i d deep fault) → 0 < d
+    → ItemFed items s end i n deep (Whole next deeper) → next < end → RunFed items s end at n due deepest (taken next (d - 1) deeper fault)
 unfolding settle
-run-more items s end at n due deepest i d deep next deeper r p h q = record {
+run-more items s end at n due deepest i d deep fault next deeper r p h q = record {
   from = omega (arith, r .from, h .0);
   inside = omega (arith, r .inside, h .1);
   fewer = omega (arith, r .fewer);

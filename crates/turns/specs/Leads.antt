@@ -4,7 +4,7 @@ use mathlib.Core.Path.{_≡_}
 use mathlib.Core.Bool.{Bool, true, false}
 use mathlib.Core.List.{List, [], _∷_}
 use lib.ListN.{length, getD, drop}
-use lib.Dec.{ltb}
+use lib.Dec.{ltb, leb}
 use Rattle.meaning.specs.Rules.{_⇒_∣_}
 use Rattle.meaning.specs.Limits.{maxBytes, maxLevels}
 use Rattle.byte_steps.specs.declared.modes.Items.{Items}
@@ -63,16 +63,23 @@ idle (Faulty number place) = true
 abbrev pub countedTo : ℕ → ℕ → ℕ
 countedTo count more = ltb (maxBytes - count) more ⇒ maxBytes + 1 ∣ λ _. count + more
 
-abbrev pub turned : Mode → Level → ℕ → ℕ → ℕ → ℕ → Act → Turned
-turned m l count whole deepest i act = record { mode = m; top = l; count = count; whole = whole; deepest = deepest; i = i; act = act }
+-- what a turn leads to; where a fault was met is nowhere said more of: it only saves time
+abbrev pub turned : Mode → Level → ℕ → ℕ → ℕ → ℕ → ℕ → Act → Turned
+turned m l count whole deepest i fault act = record { mode = m; top = l; count = count; whole = whole; deepest = deepest; i = i; fault = fault; act = act }
 
 -- the levels laid by stay
-abbrev pub stayed : Mode → Level → ℕ → ℕ → ℕ → ℕ → Turned
-stayed m l count whole deepest i = turned m l count whole deepest i Stay
+abbrev pub stayed : Mode → Level → ℕ → ℕ → ℕ → ℕ → ℕ → Turned
+stayed m l count whole deepest i fault = turned m l count whole deepest i fault Stay
 
 -- and the part is at its end
 abbrev pub rested : Mode → Level → ℕ → ℕ → ℕ → ℕ → Turned
-rested m l count whole deepest i = turned m l count whole deepest i Rest
+rested m l count whole deepest i = turned m l count whole deepest i 0 Rest
+
+-- where a byte would have to come, in a part of so many: it is at its end, or one byte more is one too many
+abbrev pub waited : ℕ → Mode → Level → ℕ → ℕ → ℕ → ℕ → Turned
+waited size m l count whole deepest i =
+    leb size i ⇒ rested m l count whole deepest i ∣ λ _.
+    rested m l (maxBytes + 1) whole deepest size
 
 -- the level laid by last, and those before it
 abbrev pub lastOf : List Level → Level → Level
@@ -133,7 +140,7 @@ pub record WindowEnd (size i stop count end : ℕ) : Type 0 where
 
 -- a shape that lies whole in the window that ends at end: fed with its bytes, the automaton is after it
 abbrev pub ShapeFed : List ℕ → ℕ → ℕ → ℕ → ℕ → Item → Type 0
-ShapeFed s end at n deepest Cut = Unit {0}
+ShapeFed s end at n deepest (Cut fault) = Unit {0}
 ShapeFed s end at n deepest (Whole next deep) =
     (at < next) × (next ≤ end)
     × ((l : Level) (ls : List Level) (top : Level) (count whole : ℕ) → length (l ∷ ls) ≡ n → count + (end - at) ≤ top .stop → count + (end - at) ≤ maxBytes
@@ -141,7 +148,7 @@ ShapeFed s end at n deepest (Whole next deep) =
 
 -- the same of an item of a list that has no short form
 abbrev pub ItemFed : Items → List ℕ → ℕ → ℕ → ℕ → ℕ → Item → Type 0
-ItemFed items s end at n deepest Cut = Unit {0}
+ItemFed items s end at n deepest (Cut fault) = Unit {0}
 ItemFed items s end at n deepest (Whole next deep) =
     (at < next) × (next ≤ end)
     × ((l : Level) (ls : List Level) (from stop due count whole : ℕ) → length (l ∷ ls) ≡ n → count + (end - at) ≤ stop → count + (end - at) ≤ maxBytes

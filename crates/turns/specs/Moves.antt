@@ -52,22 +52,6 @@ resting Between = false
 resting Done = true
 resting (Faulty number place) = true
 
-unfoldable pub movedBy : Mode → Level → ℕ → ℕ → ℕ → ℕ → Moved
-movedBy Head top n at whole deepest = betweenMoved top n at whole deepest
-movedBy (SizeLow kind from) top n at whole deepest = betweenMoved top n at whole deepest
-movedBy (SizeHigh kind from low) top n at whole deepest = betweenMoved top n at whole deepest
-movedBy (Opening kind from stop) top n at whole deepest = openingMoved kind from stop top n at whole deepest
-movedBy Count top n at whole deepest = betweenMoved top n at whole deepest
-movedBy (CountMore from low) top n at whole deepest = betweenMoved top n at whole deepest
-movedBy Length top n at whole deepest = betweenMoved top n at whole deepest
-movedBy (LengthMore from low) top n at whole deepest = betweenMoved top n at whole deepest
-movedBy (Letters from left m low high) top n at whole deepest = betweenMoved top n at whole deepest
-movedBy (BlankLow from) top n at whole deepest = betweenMoved top n at whole deepest
-movedBy (BlankHigh from low) top n at whole deepest = betweenMoved top n at whole deepest
-movedBy Between top n at whole deepest = betweenMoved top n at whole deepest
-movedBy Done top n at whole deepest = betweenMoved top n at whole deepest
-movedBy (Faulty number place) top n at whole deepest = betweenMoved top n at whole deepest
-
 -- a payload is about to open
 abbrev pub sized : Mode → ℕ
 sized Head = 0

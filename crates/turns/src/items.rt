@@ -38,10 +38,11 @@ pub fn named(items: Items) -> bool
     }
 }
 
-// An item that lies whole in a window: the place after it, and how deep the deepest shape is then. Cut: it does not, or something is wrong in it.
+// An item that lies whole in a window: the place after it, and how deep the deepest shape is then. Cut: it does not, or something is wrong in it; the
+// walk has met that at a place.
 pub enum Item {
     Whole { next: usize, deepest: u16 },
-    Cut,
+    Cut { fault: usize },
 }
 
 // A shape with a payload.
@@ -50,10 +51,7 @@ fn long_item(s: &[u8], end: usize, at: usize, n: u16, deepest: u16) -> Item
     ensures { λ r. ⌜ ShapeFed (now (s .entry)) end at n deepest r ⌝ }
 {
     match reader::shape_at(s, end, at, (LEVELS - n) as usize) {
-        Walked::Refused {
-            number: _,
-            place: _,
-        } => Item::Cut,
+        Walked::Refused { number: _, place } => Item::Cut { fault: place },
         Walked::Shape { next, depth } => Item::Whole {
             next,
             deepest: larger(deepest, n + depth as u16),
@@ -67,14 +65,14 @@ pub fn shape_item(s: &[u8], end: usize, at: usize, n: u16, deepest: u16) -> Item
     ensures { λ r. ⌜ ShapeFed (now (s .entry)) end at n deepest r ⌝ }
 {
     if end <= at {
-        return Item::Cut;
+        return Item::Cut { fault: at };
     }
     match payloads::first::first_of(s[at]) {
-        First::Unassigned => Item::Cut,
+        First::Unassigned => Item::Cut { fault: at },
         First::Short { levels } => {
             let deep = n + levels as u16;
             if LEVELS < deep {
-                return Item::Cut;
+                return Item::Cut { fault: at };
             }
             Item::Whole {
                 next: at + 1,
@@ -91,10 +89,7 @@ fn field_item(s: &[u8], end: usize, at: usize, n: u16, deepest: u16) -> Item
     ensures { λ r. ⌜ ItemFed Fields (now (s .entry)) end at n deepest r ⌝ }
 {
     match payloads::text_at(s, end, at) {
-        Text::Bad {
-            number: _,
-            place: _,
-        } => Item::Cut,
+        Text::Bad { number: _, place } => Item::Cut { fault: place },
         Text::Whole { start: _, next } => shape_item(s, end, next, n, deepest),
     }
 }
@@ -105,10 +100,7 @@ fn text_item(s: &[u8], end: usize, at: usize, n: u16, deepest: u16) -> Item
     ensures { λ r. ⌜ ItemFed Texts (now (s .entry)) end at n deepest r ⌝ }
 {
     match payloads::text_at(s, end, at) {
-        Text::Bad {
-            number: _,
-            place: _,
-        } => Item::Cut,
+        Text::Bad { number: _, place } => Item::Cut { fault: place },
         Text::Whole { start: _, next } => Item::Whole { next, deepest },
     }
 }
@@ -119,18 +111,20 @@ fn item_at(s: &[u8], end: usize, at: usize, items: Items, n: u16, deepest: u16) 
     ensures { λ r. ⌜ ItemFed items (now (s .entry)) end at n deepest r ⌝ }
 {
     match items {
-        Items::Plain => Item::Cut,
+        Items::Plain => Item::Cut { fault: at },
         Items::Bare => shape_item(s, end, at, n, deepest),
         Items::Fields => field_item(s, end, at, n, deepest),
         Items::Texts => text_item(s, end, at, n, deepest),
     }
 }
 
-// Items taken one after the other: where the next stands, how many are due after it, and how deep the deepest shape is.
+// Items taken one after the other: where the next stands, how many are due after it, how deep the deepest shape is, and the farthest fault that a walk
+// has met.
 pub struct Run {
     pub i: usize,
     pub due: u16,
     pub deepest: u16,
+    pub fault: usize,
 }
 
 // The items of a list from a place on that lie whole in a window, each with another after it there.
@@ -142,6 +136,7 @@ pub fn items_run(
     n: u16,
     due: u16,
     deepest: u16,
+    fault: usize,
 ) -> Run
     requires { ⌜ (end ≤ length (now s)) × (0 < n) × (n ≤ maxLevels) ⌝ }
     ensures { λ r. ⌜ RunFed items (now (s .entry)) end from n due deepest r ⌝ }
@@ -150,10 +145,14 @@ pub fn items_run(
         i: from,
         due,
         deepest,
+        fault,
     };
     while 0 < run.due {
         match item_at(s, end, run.i, items, n, run.deepest) {
-            Item::Cut => return run,
+            Item::Cut { fault: place } => {
+                run.fault = farthest(run.fault, place);
+                return run;
+            }
             Item::Whole {
                 next,
                 deepest: deeper,
@@ -177,8 +176,14 @@ pub fn least(a: usize, b: usize) -> usize
     if a < b { a } else { b }
 }
 
-// Where a window of a part's bytes from a place on ends: with the payload in hand, with the part, or with the longest input.
-pub fn window_end(s: &[u8], i: usize, top: Level, count: u16) -> usize
+// The larger. Of two faults it is the one that still lies ahead, if one does.
+pub fn farthest(a: usize, b: usize) -> usize {
+    if a < b { b } else { a }
+}
+
+// Where a window of a part's bytes from a place on ends: with the payload in hand, with the part, with the longest input, or with a fault ahead that a
+// walk has met. A shape round that fault is then refused at its head, and is not walked once more for each level that is round it.
+pub fn window_end(s: &[u8], i: usize, top: Level, count: u16, fault: usize) -> usize
     requires { ⌜ (i ≤ length (now s)) × (count < maxBytes) ⌝ }
     ensures { λ r. ⌜ WindowEnd (length (now (s .entry))) i (top .stop) count r ⌝ }
 {
@@ -186,5 +191,9 @@ pub fn window_end(s: &[u8], i: usize, top: Level, count: u16) -> usize
         return i;
     }
     let room = least((top.stop - count) as usize, (BYTES - count) as usize);
-    i + least(s.len() - i, room)
+    let all = least(s.len() - i, room);
+    if i < fault {
+        return i + least(all, fault - i);
+    }
+    i + all
 }

@@ -1,36 +1,49 @@
-// A turn of the loop over a part's bytes: some of them are taken, or something is done without a byte.
+// A turn of the loop over a part's bytes: some of them are taken, or something is done without a byte. A turn goes by the mode once.
 pub mod items;
 pub mod moves;
 
+use byte_steps::Took;
 use byte_steps::after_child;
+use byte_steps::blank_taken;
+use byte_steps::char_taken;
+use byte_steps::count_more;
+use byte_steps::count_taken;
+use byte_steps::first_taken;
+use byte_steps::length_more;
+use byte_steps::length_taken;
 use byte_steps::modes::BYTES;
 use byte_steps::modes::Level;
 use byte_steps::modes::Mode;
+use byte_steps::modes::larger;
 use byte_steps::modes::with_due;
-use byte_steps::taken;
+use byte_steps::size_taken;
 use byte_steps::text_done;
+use byte_steps::text_taken;
 use items::Item;
 use items::Run;
 use items::bare;
+use items::farthest;
 use items::items_run;
 use items::least;
 use items::named;
 use items::shape_item;
 use items::window_end;
 use moves::Act;
-use moves::move_on;
-use moves::resting;
+use moves::Moved;
+use moves::between_moved;
+use moves::opening_moved;
 ghost use mathlib.Core.Path.{_≡_};
+ghost use mathlib.Core.Bool.{true, false};
 ghost use Prim.Native.Nat.{_+_, _-_, _<_, _≤_};
 ghost use Rattle.byte_steps.specs.Automaton.{withDue};
-ghost use Rattle.turns.specs.Moves.{resting, sized};
-ghost use Rattle.turns.specs.Leads.{Leads, countedTo, rested, stayed};
+ghost use Rattle.turns.specs.Moves.{sized};
+ghost use Rattle.turns.specs.Leads.{Leads, countedTo, rested, stayed, turned, waited};
 ghost use Rattle.meaning.specs.Limits.{maxBytes, maxLevels};
 ghost use Rattle.byte_steps.specs.declared.modes.Mode.the-variants.{Head, Length, Letters};
 ghost use lib.ListN.{length};
-ghost use mathlib.Core.Bool.{true};
 
-// What a turn leads to: what the reader is in the middle of then, the place of the next byte, and what becomes of the levels laid by.
+// What a turn leads to: what the reader is in the middle of then, the place of the next byte, the farthest fault that a walk has met, and what becomes
+// of the levels laid by.
 pub struct Turned {
     pub mode: Mode,
     pub top: Level,
@@ -38,12 +51,21 @@ pub struct Turned {
     pub whole: u16,
     pub deepest: u16,
     pub i: usize,
+    pub fault: usize,
     pub act: Act,
 }
 
 // The levels laid by stay.
-fn stay(mode: Mode, top: Level, count: u16, whole: u16, deepest: u16, i: usize) -> Turned
-    ensures { λ r. ⌜ r ≡ stayed mode top count whole deepest i ⌝ }
+fn stay(
+    mode: Mode,
+    top: Level,
+    count: u16,
+    whole: u16,
+    deepest: u16,
+    i: usize,
+    fault: usize,
+) -> Turned
+    ensures { λ r. ⌜ r ≡ stayed mode top count whole deepest i fault ⌝ }
 {
     Turned {
         mode,
@@ -52,6 +74,7 @@ fn stay(mode: Mode, top: Level, count: u16, whole: u16, deepest: u16, i: usize) 
         whole,
         deepest,
         i,
+        fault,
         act: Act::Stay,
     }
 }
@@ -67,7 +90,36 @@ fn rest(mode: Mode, top: Level, count: u16, whole: u16, deepest: u16, i: usize) 
         whole,
         deepest,
         i,
+        fault: 0,
         act: Act::Rest,
+    }
+}
+
+// What a byte led to.
+fn on(took: Took, count: u16, whole: u16, i: usize, fault: usize) -> Turned
+    ensures { λ r. ⌜ r ≡ stayed (took .mode) (took .top) count whole (took .deepest) i fault ⌝ }
+{
+    let mode = took.mode;
+    let top = took.top;
+    stay(mode, top, count, whole, took.deepest, i, fault)
+}
+
+// What was done without a byte.
+fn moved_on(moved: Moved, count: u16, i: usize, fault: usize) -> Turned
+    ensures { λ r. ⌜ r ≡ turned (moved .mode) (moved .top) count (moved .whole) (moved .deepest) i fault (moved .act) ⌝ }
+{
+    let mode = moved.mode;
+    let top = moved.top;
+    let act = moved.act;
+    Turned {
+        mode,
+        top,
+        count,
+        whole: moved.whole,
+        deepest: moved.deepest,
+        i,
+        fault,
+        act,
     }
 }
 
@@ -106,7 +158,200 @@ fn skipped(
     )
 }
 
-// One byte.
+// Items of a list that were taken one after the other.
+fn ran(mode: Mode, top: Level, run: Run, i: usize, count: u16, whole: u16) -> Turned
+    requires { ⌜ (i ≤ run .i) × (count + (run .i - i) ≤ maxBytes) ⌝ }
+    ensures { λ r. ⌜ r ≡ stayed mode (withDue top (run .due)) (count + (run .i - i)) whole (run .deepest) (run .i) (run .fault) ⌝ }
+{
+    stay(
+        mode,
+        with_due(top, run.due),
+        count + (run.i - i) as u16,
+        whole,
+        run.deepest,
+        run.i,
+        run.fault,
+    )
+}
+
+// A shape is due: those of a list that lie whole in the part, but for the last; one that does; or a first byte.
+fn shape_turn(
+    s: &[u8],
+    i: usize,
+    top: Level,
+    n: u16,
+    count: u16,
+    whole: u16,
+    deepest: u16,
+    fault: usize,
+) -> Turned
+    requires { ⌜ (i < length (now s)) × (count < maxBytes) × (n ≤ maxLevels) ⌝ }
+    ensures { λ r. ⌜ Leads (now (s .entry)) i Head top n count whole deepest r ⌝ }
+{
+    let mut known = fault;
+    if 0 < n {
+        let items = top.items;
+        if bare(items) {
+            let run = items_run(
+                s,
+                window_end(s, i, top, count, fault),
+                i,
+                items,
+                n,
+                top.due,
+                deepest,
+                fault,
+            );
+            if i < run.i {
+                return ran(Mode::Head, top, run, i, count, whole);
+            }
+            known = run.fault;
+        }
+        match shape_item(s, window_end(s, i, top, count, known), i, n, deepest) {
+            Item::Cut { fault: place } => {
+                known = farthest(known, place);
+            }
+            Item::Whole {
+                next,
+                deepest: deeper,
+            } => {
+                return stay(
+                    Mode::Between,
+                    after_child(top, s[i]),
+                    count + (next - i) as u16,
+                    whole,
+                    deeper,
+                    next,
+                    known,
+                );
+            }
+        }
+    }
+    on(
+        first_taken(top, n, deepest, count, s[i]),
+        count + 1,
+        whole,
+        i + 1,
+        known,
+    )
+}
+
+// An item with a text is due: those that lie whole in the part, but for the last; or a length's first byte.
+fn text_turn(
+    s: &[u8],
+    i: usize,
+    top: Level,
+    n: u16,
+    count: u16,
+    whole: u16,
+    deepest: u16,
+    fault: usize,
+) -> Turned
+    requires { ⌜ (i < length (now s)) × (count < maxBytes) × (n ≤ maxLevels) ⌝ }
+    ensures { λ r. ⌜ Leads (now (s .entry)) i Length top n count whole deepest r ⌝ }
+{
+    let mut known = fault;
+    if 0 < n {
+        let items = top.items;
+        if named(items) {
+            let run = items_run(
+                s,
+                window_end(s, i, top, count, fault),
+                i,
+                items,
+                n,
+                top.due,
+                deepest,
+                fault,
+            );
+            if i < run.i {
+                return ran(Mode::Length, top, run, i, count, whole);
+            }
+            known = run.fault;
+        }
+    }
+    stay(
+        length_taken(top, count, s[i]),
+        top,
+        count + 1,
+        whole,
+        deepest,
+        i + 1,
+        known,
+    )
+}
+
+// A text goes on: between two characters as far as it is well formed, or by a byte.
+fn letters_turn(
+    s: &[u8],
+    i: usize,
+    from: u16,
+    left: u16,
+    more: u8,
+    low: u8,
+    high: u8,
+    top: Level,
+    n: u16,
+    count: u16,
+    whole: u16,
+    deepest: u16,
+    fault: usize,
+) -> Turned
+    requires { ⌜ (i < length (now s)) × (count < maxBytes) × (n ≤ maxLevels) ⌝ }
+    ensures { λ r. ⌜ Leads (now (s .entry)) i (Letters from left more low high) top n count whole deepest r ⌝ }
+{
+    if more == 0 {
+        let room = least(s.len() - i, (BYTES - count) as usize);
+        let to = leaves::well_formed_to(s, i + least(left as usize, room), i);
+        if i < to {
+            let size = (to - i) as u16;
+            if left <= size {
+                let items = top.items;
+                return stay(
+                    text_done(items, top, count + size),
+                    top,
+                    count + size,
+                    whole,
+                    deepest,
+                    to,
+                    fault,
+                );
+            }
+            return stay(
+                Mode::Letters {
+                    from,
+                    left: left - size,
+                    more: 0,
+                    low: 0,
+                    high: 0,
+                },
+                top,
+                count + size,
+                whole,
+                deepest,
+                to,
+                fault,
+            );
+        }
+    }
+    stay(
+        text_taken(
+            top,
+            from,
+            left,
+            count + 1,
+            char_taken(more, low, high, s[i]),
+        ),
+        top,
+        count + 1,
+        whole,
+        deepest,
+        i + 1,
+        fault,
+    )
+}
+
+// A byte is there, and the input is not too long: at least the byte is taken, or what comes before it is done.
 fn byte_turn(
     s: &[u8],
     i: usize,
@@ -116,183 +361,130 @@ fn byte_turn(
     count: u16,
     whole: u16,
     deepest: u16,
+    fault: usize,
 ) -> Turned
-    requires { ⌜ (i < length (now s)) × (count < maxBytes) × (n + sized mode ≤ maxLevels) × (resting mode ≡ true) ⌝ }
+    requires { ⌜ (i < length (now s)) × (count < maxBytes) × (n + sized mode ≤ maxLevels) ⌝ }
     ensures { λ r. ⌜ Leads (now (s .entry)) i mode top n count whole deepest r ⌝ }
 {
-    let took = taken(mode, top, n, deepest, count, s[i]);
-    let next = took.mode;
-    let now = took.top;
-    stay(next, now, count + 1, whole, took.deepest, i + 1)
-}
-
-// A shape is due: the whole of it, or its first byte.
-fn head_turn(s: &[u8], i: usize, top: Level, n: u16, count: u16, whole: u16, deepest: u16) -> Turned
-    requires { ⌜ (i < length (now s)) × (count < maxBytes) × (0 < n) × (n ≤ maxLevels) ⌝ }
-    ensures { λ r. ⌜ Leads (now (s .entry)) i Head top n count whole deepest r ⌝ }
-{
-    match shape_item(s, window_end(s, i, top, count), i, n, deepest) {
-        Item::Cut => byte_turn(s, i, Mode::Head, top, n, count, whole, deepest),
-        Item::Whole {
-            next,
-            deepest: deeper,
-        } => stay(
-            Mode::Between,
-            after_child(top, s[i]),
-            count + (next - i) as u16,
-            whole,
-            deeper,
-            next,
-        ),
-    }
-}
-
-// Items of a list that were taken one after the other.
-fn ran(mode: Mode, top: Level, run: Run, i: usize, count: u16, whole: u16) -> Turned
-    requires { ⌜ (i ≤ run .i) × (count + (run .i - i) ≤ maxBytes) ⌝ }
-    ensures { λ r. ⌜ r ≡ stayed mode (withDue top (run .due)) (count + (run .i - i)) whole (run .deepest) (run .i) ⌝ }
-{
-    stay(
-        mode,
-        with_due(top, run.due),
-        count + (run.i - i) as u16,
-        whole,
-        run.deepest,
-        run.i,
-    )
-}
-
-// Shapes of a list are due: those that lie whole in the part, but for the last.
-fn shapes_turn(
-    s: &[u8],
-    i: usize,
-    top: Level,
-    n: u16,
-    count: u16,
-    whole: u16,
-    deepest: u16,
-) -> Turned
-    requires { ⌜ (i < length (now s)) × (count < maxBytes) × (0 < n) × (n ≤ maxLevels) ⌝ }
-    ensures { λ r. ⌜ Leads (now (s .entry)) i Head top n count whole deepest r ⌝ }
-{
-    let items = top.items;
-    if bare(items) {
-        let run = items_run(
-            s,
-            window_end(s, i, top, count),
-            i,
-            items,
-            n,
-            top.due,
-            deepest,
-        );
-        if i < run.i {
-            return ran(Mode::Head, top, run, i, count, whole);
-        }
-        return head_turn(s, i, top, n, count, whole, deepest);
-    }
-    head_turn(s, i, top, n, count, whole, deepest)
-}
-
-// Items with texts are due: those that lie whole in the part, but for the last; or a length's first byte.
-fn texts_turn(
-    s: &[u8],
-    i: usize,
-    top: Level,
-    n: u16,
-    count: u16,
-    whole: u16,
-    deepest: u16,
-) -> Turned
-    requires { ⌜ (i < length (now s)) × (count < maxBytes) × (0 < n) × (n ≤ maxLevels) ⌝ }
-    ensures { λ r. ⌜ Leads (now (s .entry)) i Length top n count whole deepest r ⌝ }
-{
-    let items = top.items;
-    if named(items) {
-        let run = items_run(
-            s,
-            window_end(s, i, top, count),
-            i,
-            items,
-            n,
-            top.due,
-            deepest,
-        );
-        if i < run.i {
-            return ran(Mode::Length, top, run, i, count, whole);
-        }
-        return byte_turn(s, i, Mode::Length, top, n, count, whole, deepest);
-    }
-    byte_turn(s, i, Mode::Length, top, n, count, whole, deepest)
-}
-
-// A text goes on, between two characters: as far as it is well formed.
-fn letters_turn(
-    s: &[u8],
-    i: usize,
-    from: u16,
-    left: u16,
-    top: Level,
-    n: u16,
-    count: u16,
-    whole: u16,
-    deepest: u16,
-    low: u8,
-    high: u8,
-) -> Turned
-    requires { ⌜ (i < length (now s)) × (count < maxBytes) × (n ≤ maxLevels) ⌝ }
-    ensures { λ r. ⌜ Leads (now (s .entry)) i (Letters from left 0 low high) top n count whole deepest r ⌝ }
-{
-    let room = least(s.len() - i, (BYTES - count) as usize);
-    let to = leaves::well_formed_to(s, i + least(left as usize, room), i);
-    if to <= i {
-        return byte_turn(
-            s,
-            i,
-            Mode::Letters {
-                from,
-                left,
-                more: 0,
-                low,
-                high,
+    match mode {
+        Mode::Head => shape_turn(s, i, top, n, count, whole, deepest, fault),
+        Mode::SizeLow { kind, at } => stay(
+            Mode::SizeHigh {
+                kind,
+                at,
+                low: s[i],
             },
+            top,
+            count + 1,
+            whole,
+            deepest,
+            i + 1,
+            fault,
+        ),
+        Mode::SizeHigh { kind, at, low } => stay(
+            size_taken(top, kind, at, count + 1, low, s[i]),
+            top,
+            count + 1,
+            whole,
+            deepest,
+            i + 1,
+            fault,
+        ),
+        Mode::Opening { kind, at, stop } => moved_on(
+            opening_moved(kind, at, stop, top, n, count, whole, deepest),
+            count,
+            i,
+            fault,
+        ),
+        Mode::Count => on(
+            count_taken(top, deepest, count, s[i]),
+            count + 1,
+            whole,
+            i + 1,
+            fault,
+        ),
+        Mode::CountMore { at, low } => on(
+            count_more(top, deepest, at, low, s[i]),
+            count + 1,
+            whole,
+            i + 1,
+            fault,
+        ),
+        Mode::Length => text_turn(s, i, top, n, count, whole, deepest, fault),
+        Mode::LengthMore { at, low } => stay(
+            length_more(top, at, low, count + 1, s[i]),
+            top,
+            count + 1,
+            whole,
+            deepest,
+            i + 1,
+            fault,
+        ),
+        Mode::Letters {
+            from,
+            left,
+            more,
+            low,
+            high,
+        } => letters_turn(
+            s,
+            i,
+            from,
+            left,
+            more,
+            low,
+            high,
             top,
             n,
             count,
             whole,
             deepest,
-        );
-    }
-    let size = (to - i) as u16;
-    if left <= size {
-        let items = top.items;
-        return stay(
-            text_done(items, top, count + size),
+            fault,
+        ),
+        Mode::BlankLow { at } => stay(
+            Mode::BlankHigh { at, low: s[i] },
             top,
-            count + size,
+            count + 1,
             whole,
             deepest,
-            to,
-        );
+            i + 1,
+            fault,
+        ),
+        Mode::BlankHigh { at, low } => stay(
+            blank_taken(at, low, s[i]),
+            top,
+            count + 1,
+            whole,
+            larger(deepest, n + 1),
+            i + 1,
+            fault,
+        ),
+        Mode::Between => moved_on(
+            between_moved(top, n, count, whole, deepest),
+            count,
+            i,
+            fault,
+        ),
+        Mode::Done => skipped(s, i, mode, top, count, whole, deepest),
+        Mode::Faulty {
+            number: _,
+            place: _,
+        } => skipped(s, i, mode, top, count, whole, deepest),
     }
-    stay(
-        Mode::Letters {
-            from,
-            left: left - size,
-            more: 0,
-            low: 0,
-            high: 0,
-        },
-        top,
-        count + size,
-        whole,
-        deepest,
-        to,
-    )
 }
 
-// A byte is there, and the input is not too long: at least the byte is taken.
-fn bytes_turn(
+// Where a byte would have to come: the part is at its end, or one byte more is one too many.
+fn waits(s: &[u8], i: usize, mode: Mode, top: Level, count: u16, whole: u16, deepest: u16) -> Turned
+    ensures { λ r. ⌜ r ≡ waited (length (now (s .entry))) mode top count whole deepest i ⌝ }
+{
+    if s.len() <= i {
+        return rest(mode, top, count, whole, deepest, i);
+    }
+    rest(mode, top, BYTES + 1, whole, deepest, s.len())
+}
+
+// No byte can be taken: what is left to be done without one, or the end.
+fn last_turn(
     s: &[u8],
     i: usize,
     mode: Mode,
@@ -301,42 +493,61 @@ fn bytes_turn(
     count: u16,
     whole: u16,
     deepest: u16,
+    fault: usize,
 ) -> Turned
-    requires { ⌜ (i < length (now s)) × (count < maxBytes) × (n + sized mode ≤ maxLevels) × (resting mode ≡ true) ⌝ }
+    requires { ⌜ (i ≤ length (now s)) × (i < length (now s) → maxBytes ≤ count) × (n + sized mode ≤ maxLevels) ⌝ }
     ensures { λ r. ⌜ Leads (now (s .entry)) i mode top n count whole deepest r ⌝ }
 {
     match mode {
-        Mode::Head => {
-            if n == 0 {
-                return byte_turn(s, i, mode, top, n, count, whole, deepest);
-            }
-            shapes_turn(s, i, top, n, count, whole, deepest)
-        }
-        Mode::Length => {
-            if n == 0 {
-                return byte_turn(s, i, mode, top, n, count, whole, deepest);
-            }
-            texts_turn(s, i, top, n, count, whole, deepest)
-        }
+        Mode::Opening { kind, at, stop } => moved_on(
+            opening_moved(kind, at, stop, top, n, count, whole, deepest),
+            count,
+            i,
+            fault,
+        ),
+        Mode::Between => moved_on(
+            between_moved(top, n, count, whole, deepest),
+            count,
+            i,
+            fault,
+        ),
+        Mode::Head => waits(s, i, mode, top, count, whole, deepest),
+        Mode::SizeLow { kind: _, at: _ } => waits(s, i, mode, top, count, whole, deepest),
+        Mode::SizeHigh {
+            kind: _,
+            at: _,
+            low: _,
+        } => waits(s, i, mode, top, count, whole, deepest),
+        Mode::Count => waits(s, i, mode, top, count, whole, deepest),
+        Mode::CountMore { at: _, low: _ } => waits(s, i, mode, top, count, whole, deepest),
+        Mode::Length => waits(s, i, mode, top, count, whole, deepest),
+        Mode::LengthMore { at: _, low: _ } => waits(s, i, mode, top, count, whole, deepest),
         Mode::Letters {
-            from,
-            left,
-            more,
-            low,
-            high,
-        } => {
-            if more == 0 {
-                return letters_turn(s, i, from, left, top, n, count, whole, deepest, low, high);
-            }
-            byte_turn(s, i, mode, top, n, count, whole, deepest)
-        }
-        Mode::Done => skipped(s, i, mode, top, count, whole, deepest),
+            from: _,
+            left: _,
+            more: _,
+            low: _,
+            high: _,
+        } => waits(s, i, mode, top, count, whole, deepest),
+        Mode::BlankLow { at: _ } => waits(s, i, mode, top, count, whole, deepest),
+        Mode::BlankHigh { at: _, low: _ } => waits(s, i, mode, top, count, whole, deepest),
+        Mode::Done => waits(s, i, mode, top, count, whole, deepest),
         Mode::Faulty {
             number: _,
             place: _,
-        } => skipped(s, i, mode, top, count, whole, deepest),
-        _ => byte_turn(s, i, mode, top, n, count, whole, deepest),
+        } => waits(s, i, mode, top, count, whole, deepest),
     }
+}
+
+// Whether a byte is there to be taken.
+fn there(size: usize, i: usize, count: u16) -> bool
+    ensures yes { λ r. ⌜ (r ≡ true → (i < size) × (count < maxBytes)) ⌝ }
+    ensures no { λ r. ⌜ (r ≡ false → i < size → maxBytes ≤ count) ⌝ }
+{
+    if i < size {
+        return count < BYTES;
+    }
+    false
 }
 
 // A turn, whatever the reader is in the middle of.
@@ -349,30 +560,13 @@ pub fn turn(
     count: u16,
     whole: u16,
     deepest: u16,
+    fault: usize,
 ) -> Turned
     requires { ⌜ (i ≤ length (now s)) × (n + sized mode ≤ maxLevels) ⌝ }
     ensures { λ r. ⌜ Leads (now (s .entry)) i mode top n count whole deepest r ⌝ }
 {
-    if resting(mode) {
-        if s.len() <= i {
-            return rest(mode, top, count, whole, deepest, i);
-        }
-        if BYTES <= count {
-            return rest(mode, top, BYTES + 1, whole, deepest, s.len());
-        }
-        return bytes_turn(s, i, mode, top, n, count, whole, deepest);
+    if there(s.len(), i, count) {
+        return byte_turn(s, i, mode, top, n, count, whole, deepest, fault);
     }
-    let moved = move_on(mode, top, n, count, whole, deepest);
-    let next = moved.mode;
-    let now = moved.top;
-    let act = moved.act;
-    Turned {
-        mode: next,
-        top: now,
-        count,
-        whole: moved.whole,
-        deepest: moved.deepest,
-        i,
-        act,
-    }
+    last_turn(s, i, mode, top, n, count, whole, deepest, fault)
 }

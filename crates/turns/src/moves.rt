@@ -13,7 +13,7 @@ use payloads::first::Kind;
 ghost use mathlib.Core.Path.{_≡_};
 ghost use Prim.Native.Nat.{_≤_};
 ghost use Rattle.byte_steps.specs.Automaton.{countDue};
-ghost use Rattle.turns.specs.Moves.{betweenMoved, blankDue, movedBy, openingMoved, resting, sized};
+ghost use Rattle.turns.specs.Moves.{betweenMoved, blankDue, openingMoved, sized};
 ghost use lib.Dec.{eqb};
 ghost use Rattle.meaning.specs.Rules.{_⇒_∣_};
 ghost use Rattle.meaning.specs.Limits.{maxLevels};
@@ -34,45 +34,6 @@ pub struct Moved {
     pub whole: u16,
     pub deepest: u16,
     pub act: Act,
-}
-
-// Whether a byte must come before anything else can be done.
-pub fn resting(mode: Mode) -> bool
-    ensures { λ r. ⌜ r ≡ resting mode ⌝ }
-{
-    match mode {
-        Mode::Head => true,
-        Mode::SizeLow { kind: _, at: _ } => true,
-        Mode::SizeHigh {
-            kind: _,
-            at: _,
-            low: _,
-        } => true,
-        Mode::Opening {
-            kind: _,
-            at: _,
-            stop: _,
-        } => false,
-        Mode::Count => true,
-        Mode::CountMore { at: _, low: _ } => true,
-        Mode::Length => true,
-        Mode::LengthMore { at: _, low: _ } => true,
-        Mode::Letters {
-            from: _,
-            left: _,
-            more: _,
-            low: _,
-            high: _,
-        } => true,
-        Mode::BlankLow { at: _ } => true,
-        Mode::BlankHigh { at: _, low: _ } => true,
-        Mode::Between => false,
-        Mode::Done => true,
-        Mode::Faulty {
-            number: _,
-            place: _,
-        } => true,
-    }
 }
 
 // 1 where a payload is about to open, which takes a level.
@@ -297,45 +258,5 @@ pub fn opening_moved(
             deepest,
             act: Act::Stay,
         },
-    }
-}
-
-// What is done without a byte, where something is.
-pub fn move_on(mode: Mode, top: Level, n: u16, at: u16, whole: u16, deepest: u16) -> Moved
-    requires { ⌜ n ≤ maxLevels ⌝ }
-    ensures { λ r. ⌜ r ≡ movedBy mode top n at whole deepest ⌝ }
-{
-    match mode {
-        Mode::Opening {
-            kind,
-            at: from,
-            stop,
-        } => opening_moved(kind, from, stop, top, n, at, whole, deepest),
-        Mode::Head => between_moved(top, n, at, whole, deepest),
-        Mode::SizeLow { kind: _, at: _ } => between_moved(top, n, at, whole, deepest),
-        Mode::SizeHigh {
-            kind: _,
-            at: _,
-            low: _,
-        } => between_moved(top, n, at, whole, deepest),
-        Mode::Count => between_moved(top, n, at, whole, deepest),
-        Mode::CountMore { at: _, low: _ } => between_moved(top, n, at, whole, deepest),
-        Mode::Length => between_moved(top, n, at, whole, deepest),
-        Mode::LengthMore { at: _, low: _ } => between_moved(top, n, at, whole, deepest),
-        Mode::Letters {
-            from: _,
-            left: _,
-            more: _,
-            low: _,
-            high: _,
-        } => between_moved(top, n, at, whole, deepest),
-        Mode::BlankLow { at: _ } => between_moved(top, n, at, whole, deepest),
-        Mode::BlankHigh { at: _, low: _ } => between_moved(top, n, at, whole, deepest),
-        Mode::Between => between_moved(top, n, at, whole, deepest),
-        Mode::Done => between_moved(top, n, at, whole, deepest),
-        Mode::Faulty {
-            number: _,
-            place: _,
-        } => between_moved(top, n, at, whole, deepest),
     }
 }

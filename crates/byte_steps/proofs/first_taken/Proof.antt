@@ -10,23 +10,24 @@ use Rattle.byte_steps.proofs.Firsts.{short-small}
 use Rattle.byte_steps.proofs.first_taken.Statement.{statement}
 use Rattle.byte_steps.proofs.first_taken.Tie as tie
 
+-- The byte's class is told at first-of, and then by the arm: its levels, or its kind.
 cast-deep : tie.Need-cast-deep
-cast-deep c = let h = short-small (classOf (c .before .before .before .before .args .b)) _ (sym (c .before .before .before .first-of .ensures) ∙ c .before .levels .given .1) in omega arith
+cast-deep c = let arm = c .before in let f = arm .before .before in let h = short-small (classOf (f .before .args .b)) _ (sym (f .first-of .ensures) ∙ arm .levels .given .1) in omega arith
 
 add-deep : tie.Need-add-deep
-add-deep c = let h = short-small (classOf (c .before .before .before .before .args .b)) _ (sym (c .before .before .before .first-of .ensures) ∙ c .before .levels .given .1) in omega arith
+add-deep c = let arm = c .before in let f = arm .before .before in let h = short-small (classOf (f .before .args .b)) _ (sym (f .first-of .ensures) ∙ arm .levels .given .1) in omega arith
 
 returns : tie.Need-returns
 unfolding firstTaken
-returns c = rw (← c .before .before .before .before .first-of .ensures, c .before .before .levels .given .1) (search tests)
+returns c = let arm = c .before .before in rw (← arm .before .before .first-of .ensures, arm .levels .given .1) (search tests)
 
 returns-2 : tie.Need-returns-2
 unfolding firstTaken
-returns-2 c = rw (← c .before .before .before .before .first-of .ensures, c .before .before .kind .given .1) (search tests)
+returns-2 c = let arm = c .before .before in rw (← arm .before .before .first-of .ensures, arm .kind .given .1) (search tests)
 
 returns-3 : tie.Need-returns-3
 unfolding firstTaken
-returns-3 c = rw (← c .before .before .before .before .before .before .first-of .ensures, c .before .before .before .before .kind .given .1) (search tests)
+returns-3 c = let arm = c .before .before .before .before in rw (← arm .before .before .first-of .ensures, arm .kind .given .1) (search tests)
 
 returns-4 : tie.Need-returns-4
 unfolding firstTaken
@@ -34,11 +35,11 @@ returns-4 c = rw (← c .before .before .first-of .ensures, c .enum-told .given 
 
 returns-5 : tie.Need-returns-5
 unfolding firstTaken
-returns-5 c = rw (← c .before .before .before .before .before .before .first-of .ensures, c .before .before .before .before .levels .given .1, c .before .after-child .ensures, c .larger .ensures) (search tests)
+returns-5 c = let arm = c .before .before .before .before in rw (← arm .before .before .first-of .ensures, arm .levels .given .1, c .before .after-child .ensures, c .larger .ensures) (search tests)
 
 returns-6 : tie.Need-returns-6
 unfolding firstTaken
-returns-6 c = rw (← c .before .before .before .before .before .before .before .first-of .ensures, c .before .before .before .before .before .kind .given .1, c .no-primitive .ensures) (search tests)
+returns-6 c = let arm = c .before .before .before .before .before in rw (← arm .before .before .first-of .ensures, arm .kind .given .1, c .no-primitive .ensures) (search tests)
 
 pub first-taken-spec : {M : Type 1} → statement M
 first-taken-spec =

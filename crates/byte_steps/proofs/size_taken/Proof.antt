@@ -15,4 +15,14 @@ unfolding sizeTaken
 returns-2 c = search tests
 
 pub size-taken-spec : {M : Type 1} → statement M
-size-taken-spec = tie.close (tie.spec (λ c. search needs) (λ c. search needs) (λ c. search needs) returns (λ c. search needs) returns-2)
+size-taken-spec =
+    tie.close
+    (tie.spec
+    (λ c. search needs)
+    (λ c. search needs)
+    (λ c. search needs)
+    (λ c. search needs)
+    (λ c. search needs)
+    returns
+    (λ c. search needs)
+    returns-2)

@@ -3,21 +3,21 @@
 use native.Mathlib.Omega.{arith}
 use borrow.Author.Needs.{needs}
 use Rattle.turns.specs.Leads.{RunFed}
-use Rattle.turns.proofs.Whole.{run-none, run-more}
+use Rattle.turns.proofs.Whole.{run-none, run-fault, run-more}
 use Rattle.turns.proofs.items.items_run.Statement.{statement}
 use Rattle.turns.proofs.items.items_run.Tie as tie
 
 abbrev Inv-loop : tie.InvT-loop
-Inv-loop s end from items n due deepest run₀ run = RunFed items s end from n due deepest run
+Inv-loop s end from items n due deepest fault run₀ run = RunFed items s end from n due deepest run
 
 abbrev μ-loop : tie.MeasureT-loop
-μ-loop s end from items n due deepest run₀ run = run .due
+μ-loop s end from items n due deepest fault run₀ run = run .due
 
 loop-holds : tie.Need-loop-holds Inv-loop μ-loop
-loop-holds c = let a = c .before in run-none (a .args .items) (a .args .s .now) (a .args .end) (a .args .from) (a .args .n) (a .args .due) (a .args .deepest)
+loop-holds c = let a = c .before in run-none (a .args .items) (a .args .s .now) (a .args .end) (a .args .from) (a .args .n) (a .args .due) (a .args .deepest) (a .args .fault)
 
 returns : tie.Need-returns Inv-loop μ-loop
-returns c = c .before .before .before .before .before .loop .inv
+returns c = run-fault _ (c .before .before .before .before .before .before .before .loop .inv)
 
 returns-2 : tie.Need-returns-2 Inv-loop μ-loop
 returns-2 c = c .before .before .before .before .before .before .before .loop .inv
@@ -27,8 +27,8 @@ loop-again c =
     let a = c .before .before .before .before .before .before .before .before .before .before in
     let r = c .before .before .before .before .before .before .before .before .loop in
     let k = c .before .before .before in
-    run-more (a .args .items) (a .args .s .now) (a .args .end) (a .args .from) (a .args .n) (a .args .due) (a .args .deepest) (r .run .i) (r .run .due) (r .run .deepest) _ _ (r .inv) (omega arith)
-    (rw (k .next .given .1) at (k .before .before .item-at .ensures)) (omega arith)
+    run-more (a .args .items) (a .args .s .now) (a .args .end) (a .args .from) (a .args .n) (a .args .due) (a .args .deepest) (r .run .i) (r .run .due) (r .run .deepest) (r .run .fault) _ _ (r .inv)
+    (omega arith) (rw (k .next .given .1) at (k .before .before .item-at .ensures)) (omega arith)
 
 returns-3 : tie.Need-returns-3 Inv-loop μ-loop
 returns-3 c = c .before .before .loop .inv
@@ -42,6 +42,7 @@ items-run-spec =
     loop-holds
     (λ c κs. search needs)
     (λ c. search needs)
+    (λ c κs. search needs)
     returns
     (λ c. search needs)
     returns-2
