@@ -5,16 +5,17 @@ use answers::made_answer;
 use answers::name_answer;
 use answers::read_answer;
 use answers::sheet_answer;
-use byte_steps::modes::LEVELS;
 use editor::Node;
+use pieces::halted;
 use pieces::state::State;
 use pieces::state::entry_of;
 use pieces::state::level_of;
 use pieces::state::mode_of;
 use pieces::state::no_entry;
 use pieces::state::word_of;
+use turns::begun;
 use turns::moves::Act;
-use turns::moves::sized;
+use turns::taken_up;
 use turns::turn;
 ghost use Prim.Native.Nat.{ℕ, _<_};
 ghost use mathlib.Core.Path.{_≡_};
@@ -120,63 +121,48 @@ pub extern "C" fn shiulbart_pieces_part(mut state: State, part: &[u8]) -> State
     ensures led { λ r. ⌜ ((u : List ℕ) → state ≡ ledTo u → r ≡ ledTo (u ++ now (part .entry))) ⌝ }
 {
     let next = state.next;
-    let mut mode = mode_of(next);
-    if 0 < state.closed {
-        return state;
-    }
-    // from a state that no part leads to
-    if LEVELS < state.used {
-        return state;
-    }
-    if LEVELS < state.used + sized(mode) {
+    let mode = mode_of(next);
+    if halted(state.closed, state.used, mode) {
         return state;
     }
     let first = state.top;
-    let mut top = level_of(first);
+    let mut t = begun(
+        mode,
+        level_of(first),
+        state.count,
+        state.whole,
+        state.deepest,
+    );
     let mut n = state.used;
-    let mut count = state.count;
-    let mut whole = state.whole;
-    let mut deepest = state.deepest;
-    let mut i = 0;
-    let mut fault = 0;
     loop {
-        let t = turn(part, i, mode, top, n, count, whole, deepest, fault);
+        // the level in hand, should the turn lay it by
+        let over = t.top;
+        t = turn(part, t, n);
         let act = t.act;
-        count = t.count;
-        whole = t.whole;
-        deepest = t.deepest;
-        i = t.i;
-        fault = t.fault;
         match act {
-            Act::Rest => {
-                let last = t.mode;
-                let level = t.top;
-                state.top = entry_of(level);
-                state.next = word_of(last);
-                state.used = n;
-                state.count = count;
-                state.whole = whole;
-                state.deepest = deepest;
-                return state;
-            }
-            Act::Stay => {
-                mode = t.mode;
-                top = t.top;
-            }
+            Act::Stay => {}
             Act::Push => {
                 let k = n as usize;
-                state.levels[k] = entry_of(top);
+                state.levels[k] = entry_of(over);
                 n += 1;
-                mode = t.mode;
-                top = t.top;
             }
             Act::Pop => {
                 n -= 1;
                 let k = n as usize;
                 let entry = state.levels[k];
                 state.levels[k] = no_entry();
-                top = level_of(entry);
-                mode = t.mode;
+                t = taken_up(t, level_of(entry));
+            }
+            Act::Rest => {
+                let mode = t.mode;
+                let top = t.top;
+                state.top = entry_of(top);
+                state.next = word_of(mode);
+                state.used = n;
+                state.count = t.count;
+                state.whole = t.whole;
+                state.deepest = t.deepest;
+                return state;
             }
         }
     }

@@ -3,6 +3,7 @@
 pub mod state;
 
 use byte_steps::modes::BYTES;
+use byte_steps::modes::LEVELS;
 use byte_steps::modes::Mode;
 use leaves::limits::MAX_BYTES;
 use leaves::limits::MAX_LEVELS;
@@ -17,8 +18,12 @@ use state::State;
 use state::Word;
 use state::mode_of;
 use state::no_entry;
+use turns::moves::sized;
 ghost use mathlib.Core.Path.{_≡_};
-ghost use Prim.Native.Nat.{ℕ};
+ghost use mathlib.Core.Bool.{true, false};
+ghost use Prim.Native.Nat.{ℕ, _+_, _<_, _≤_};
+ghost use Rattle.meaning.specs.Limits.{maxLevels};
+ghost use Rattle.turns.specs.Moves.{sized};
 ghost use Rattle.byte_steps.specs.Automaton.{verdict};
 ghost use Rattle.pieces.specs.Kept.{judgedOut};
 ghost use Rattle.pieces.specs.Led.{Small, closedOf, ledTo};
@@ -177,4 +182,18 @@ pub fn finish(mut state: State) -> Finished
         state,
         answer: verdict(mode_of(next), state.count, state.whole, state.deepest),
     }
+}
+
+// Whether a part changes nothing: the state is finished, or is one that no part leads to.
+pub fn halted(closed: u16, used: u16, mode: Mode) -> bool
+    ensures yes { λ r. ⌜ (r ≡ true → closed ≡ 0 → maxLevels < used + sized mode) ⌝ }
+    ensures no { λ r. ⌜ (r ≡ false → (closed ≡ 0) × (used + sized mode ≤ maxLevels)) ⌝ }
+{
+    if 0 < closed {
+        return true;
+    }
+    if LEVELS < used {
+        return true;
+    }
+    LEVELS < used + sized(mode)
 }

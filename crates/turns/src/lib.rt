@@ -550,23 +550,40 @@ fn there(size: usize, i: usize, count: u16) -> bool
     false
 }
 
-// A turn, whatever the reader is in the middle of.
-pub fn turn(
-    s: &[u8],
-    i: usize,
-    mode: Mode,
-    top: Level,
-    n: u16,
-    count: u16,
-    whole: u16,
-    deepest: u16,
-    fault: usize,
-) -> Turned
-    requires { ⌜ (i ≤ length (now s)) × (n + sized mode ≤ maxLevels) ⌝ }
-    ensures { λ r. ⌜ Leads (now (s .entry)) i mode top n count whole deepest r ⌝ }
+// What the reader is in the middle of where a part begins.
+pub fn begun(mode: Mode, top: Level, count: u16, whole: u16, deepest: u16) -> Turned
+    ensures { λ r. ⌜ r ≡ stayed mode top count whole deepest 0 0 ⌝ }
 {
-    if there(s.len(), i, count) {
-        return byte_turn(s, i, mode, top, n, count, whole, deepest, fault);
+    stay(mode, top, count, whole, deepest, 0, 0)
+}
+
+// With the level in hand that was laid by last.
+pub fn taken_up(t: Turned, top: Level) -> Turned
+    ensures { λ r. ⌜ r ≡ turned (t .mode) top (t .count) (t .whole) (t .deepest) (t .i) (t .fault) (t .act) ⌝ }
+{
+    let mode = t.mode;
+    let act = t.act;
+    Turned {
+        mode,
+        top,
+        count: t.count,
+        whole: t.whole,
+        deepest: t.deepest,
+        i: t.i,
+        fault: t.fault,
+        act,
     }
-    last_turn(s, i, mode, top, n, count, whole, deepest, fault)
+}
+
+// A turn, whatever the reader is in the middle of.
+pub fn turn(s: &[u8], t: Turned, n: u16) -> Turned
+    requires { ⌜ (t .i ≤ length (now s)) × (n + sized (t .mode) ≤ maxLevels) ⌝ }
+    ensures { λ r. ⌜ Leads (now (s .entry)) (t .i) (t .mode) (t .top) n (t .count) (t .whole) (t .deepest) r ⌝ }
+{
+    let mode = t.mode;
+    let top = t.top;
+    if there(s.len(), t.i, t.count) {
+        return byte_turn(s, t.i, mode, top, n, t.count, t.whole, t.deepest, t.fault);
+    }
+    last_turn(s, t.i, mode, top, n, t.count, t.whole, t.deepest, t.fault)
 }

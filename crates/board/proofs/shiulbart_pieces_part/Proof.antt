@@ -16,92 +16,89 @@ use Rattle.board.proofs.shiulbart_pieces_part.Statement.{statement}
 use Rattle.board.proofs.shiulbart_pieces_part.Tie as tie
 
 abbrev Inv-loop : tie.InvT-loop
-Inv-loop bytes state₀ mode₀ top₀ n₀ count₀ whole₀ deepest₀ i₀ fault₀ state mode top n count whole deepest i fault =
-    Inv bytes (state₀ .levels) mode₀ top₀ n₀ count₀ whole₀ deepest₀ (state .levels) mode top n count whole deepest i × (state .closed ≡ state₀ .closed)
+Inv-loop part state₀ t₀ n₀ state t n =
+    Inv part (state₀ .levels) (t₀ .mode) (t₀ .top) n₀ (t₀ .count) (t₀ .whole) (t₀ .deepest) (state .levels) (t .mode) (t .top) n (t .count) (t .whole) (t .deepest) (t .i) × (state .closed ≡ state₀ .closed)
 
 abbrev μ-loop : tie.MeasureT-loop
-μ-loop bytes state₀ mode₀ top₀ n₀ count₀ whole₀ deepest₀ i₀ fault₀ state mode top n count whole deepest i fault =
-    toDo bytes i mode n
+μ-loop part state₀ t₀ n₀ state t n = toDo part (t .i) (t .mode) n
 
+-- no part leads to a state that is halted
 returns : tie.Need-returns Inv-loop μ-loop
-returns c = ((λ _. refl), (λ u e. absurd (omega (arith, led-open u _ e, c .if1 .taken))))
-
-returns-2 : tie.Need-returns-2 Inv-loop μ-loop
-returns-2 c = ((λ _. refl), (λ u e. absurd (omega (arith, led-room u _ e, c .if2 .taken))))
-
-returns-3 : tie.Need-returns-3 Inv-loop μ-loop
-returns-3 c = let z = c .before .sized .ensures .0 ∙ ap sized (c .before .before .before .before .mode-of .ensures) in ((λ _. refl), (λ u e. absurd (omega (arith, led-room u _ e, c .if3 .taken))))
+returns c =
+    let h = c .before in let z = ap sized (h .before .mode-of .ensures) in
+    ((λ _. refl), (λ u e. absurd (omega (arith, led-room u _ e, h .halted .ensures .0 (c .if1 .taken) (led-open u _ e)))))
 
 loop-holds : tie.Need-loop-holds Inv-loop μ-loop
 loop-holds c =
-    let room = c .before .before in let mode = room .before .before .before .before in let a = mode .before .before .before in let z = room .before .sized .ensures .0 in (
-      inv-start (a .args .part .now) (a .args .t1 .levels) (mode .mode-of .result) (c .level-of .result) (a .args .t1 .used) (a .args .t1 .count) (a .args .t1 .whole) (a .args .t1 .deepest)
-          (omega (arith, room .if3 .left)) (sym (length-map (a .args .t1 .levels) _) ∙ a .good .0 .1 .1 .0 .1 .0 .1) (rw (mode .mode-of .ensures) (mode-rests _)),
+    let test = c .before .before .before in let mode = test .before .before in let a = mode .before .before .before in (
+      rw (c .begun .ensures)
+          (inv-start (a .args .part .now) (a .args .t1 .levels) (mode .mode-of .result) (c .before .level-of .result) (a .args .t1 .used) (a .args .t1 .count) (a .args .t1 .whole) (a .args .t1 .deepest)
+          (test .before .halted .ensures .1 (test .if1 .left) .1) (sym (length-map (a .args .t1 .levels) _) ∙ a .good .0 .1 .1 .0 .1 .0 .1) (rw (mode .mode-of .ensures) (mode-rests _))),
       refl,
     )
 
 turn-requires : tie.Need-turn-requires Inv-loop μ-loop
-turn-requires c κs = let l = c .loop .inv .0 in (l .within, l .fair)
-
--- the part is at its end
-returns-4 : tie.Need-returns-4 Inv-loop μ-loop
-returns-4 c =
-    let told = c .before .before .before in let t = told .before .before in let l = t .before in let begun = l .before in let unfinished = begun .before .before .before .before .before in (
-      (λ h. absurd (omega (arith, h, unfinished .if1 .left))),
-      λ u e. rw (c .before .entry-of .ensures, c .word-of .ensures, l .loop .inv .1 ∙ led-open u _ e)
-          (rest-led (l .loop .inv .0) (t .turn .ensures) (told .enum-told .given .1) u (sym (ap runOf e) ∙ rw (begun .level-of .ensures, unfinished .before .mode-of .ensures)) (ap (λ (y : State). y .levels) e) (ap (λ (y : State). y .used) e)),
-    )
+turn-requires c κs = let l = c .before .loop .inv .0 in (l .within, l .fair)
 
 -- the levels stay
 loop-less : tie.Need-loop-less Inv-loop μ-loop
-loop-less c = let told = c .before in let t = told .before .before in let l = t .before in stay-less (l .loop .inv .0) (t .turn .ensures) (told .enum-told2 .given .1)
+loop-less c = let told = c in let t = told .before .before in let l = t .before .before .loop in stay-less (l .inv .0) (t .turn .ensures) (told .enum-told .given .1)
 
 loop-again : tie.Need-loop-again Inv-loop μ-loop
-loop-again c = let told = c .before in let t = told .before .before in let l = t .before in (inv-stay (l .loop .inv .0) (t .turn .ensures) (told .enum-told2 .given .1), l .loop .inv .1)
+loop-again c = let told = c in let t = told .before .before in let l = t .before .before .loop in (inv-stay (l .inv .0) (t .turn .ensures) (told .enum-told .given .1), l .inv .1)
 
 -- the level in hand is laid by
 cast-k : tie.Need-cast-k Inv-loop μ-loop
-cast-k c = let told = c in let t = told .before .before in let l = t .before in let h = push-room (l .loop .inv .0) (t .turn .ensures) (told .enum-told3 .given .1) in omega arith
+cast-k c = let told = c in let t = told .before .before in let l = t .before .before .loop in let h = push-room (l .inv .0) (t .turn .ensures) (told .enum-told2 .given .1) in omega arith
 
-mul-t28 : tie.Need-mul-t28 Inv-loop μ-loop
-mul-t28 c = let told = c .before in let t = told .before .before in let l = t .before in let h = push-room (l .loop .inv .0) (t .turn .ensures) (told .enum-told3 .given .1) in omega arith
+mul-t22 : tie.Need-mul-t22 Inv-loop μ-loop
+mul-t22 c = let told = c .before in let t = told .before .before in let l = t .before .before .loop in let h = push-room (l .inv .0) (t .turn .ensures) (told .enum-told2 .given .1) in omega arith
 
 element-set-from-state : tie.Need-element-set-from-state Inv-loop μ-loop
-element-set-from-state c = let told = c .before in let t = told .before .before in let l = t .before in push-room (l .loop .inv .0) (t .turn .ensures) (told .enum-told3 .given .1)
+element-set-from-state c = let told = c .before in let t = told .before .before in let l = t .before .before .loop in push-room (l .inv .0) (t .turn .ensures) (told .enum-told2 .given .1)
 
 add-n : tie.Need-add-n Inv-loop μ-loop
-add-n c = let told = c .before in let t = told .before .before in let l = t .before in let h = push-room (l .loop .inv .0) (t .turn .ensures) (told .enum-told3 .given .1) in omega arith
+add-n c = let told = c .before in let t = told .before .before in let l = t .before .before .loop in let h = push-room (l .inv .0) (t .turn .ensures) (told .enum-told2 .given .1) in omega arith
 
 loop-less-2 : tie.Need-loop-less-2 Inv-loop μ-loop
-loop-less-2 c = let told = c .before .before in let t = told .before .before in let l = t .before in push-less (l .loop .inv .0) (t .turn .ensures) (told .enum-told3 .given .1)
+loop-less-2 c = let told = c .before in let t = told .before .before in let l = t .before .before .loop in push-less (l .inv .0) (t .turn .ensures) (told .enum-told2 .given .1)
 
 loop-again-2 : tie.Need-loop-again-2 Inv-loop μ-loop
-loop-again-2 c = let told = c .before .before in let t = told .before .before in let l = t .before in (rw (c .before .entry-of2 .ensures) (inv-push (l .loop .inv .0) (t .turn .ensures) (told .enum-told3 .given .1)), l .loop .inv .1)
+loop-again-2 c = let told = c .before in let t = told .before .before in let l = t .before .before .loop in (rw (c .entry-of .ensures) (inv-push (l .inv .0) (t .turn .ensures) (told .enum-told2 .given .1)), l .inv .1)
 
 -- the level laid by last is taken up again
 sub-n : tie.Need-sub-n Inv-loop μ-loop
-sub-n c = let told = c in let t = told .before .before in let l = t .before in pop-some (l .loop .inv .0) (t .turn .ensures) (told .enum-told4 .given .1)
+sub-n c = let told = c in let t = told .before .before in let l = t .before .before .loop in pop-some (l .inv .0) (t .turn .ensures) (told .enum-told3 .given .1)
 
 cast-k-2 : tie.Need-cast-k-2 Inv-loop μ-loop
-cast-k-2 c = let told = c in let t = told .before .before in let l = t .before in omega (arith, l .loop .inv .0 .fair)
+cast-k-2 c = let told = c in let t = told .before .before in let l = t .before .before .loop in omega (arith, l .inv .0 .fair)
 
 mul-entry : tie.Need-mul-entry Inv-loop μ-loop
-mul-entry c = let told = c in let t = told .before .before in let l = t .before in omega (arith, l .loop .inv .0 .fair)
+mul-entry c = let told = c in let t = told .before .before in let l = t .before .before .loop in omega (arith, l .inv .0 .fair)
 
 element-copy-out-entry : tie.Need-element-copy-out-entry Inv-loop μ-loop
-element-copy-out-entry c = let told = c in let t = told .before .before in let l = t .before in let h = pop-some (l .loop .inv .0) (t .turn .ensures) (told .enum-told4 .given .1) in omega (arith, l .loop .inv .0 .fair)
+element-copy-out-entry c = let told = c in let t = told .before .before in let l = t .before .before .loop in let h = pop-some (l .inv .0) (t .turn .ensures) (told .enum-told3 .given .1) in omega (arith, l .inv .0 .fair)
 
-mul-t31 : tie.Need-mul-t31 Inv-loop μ-loop
-mul-t31 c = let told = c .before .before in let t = told .before .before in let l = t .before in omega (arith, l .loop .inv .0 .fair)
+mul-t25 : tie.Need-mul-t25 Inv-loop μ-loop
+mul-t25 c = let told = c .before .before in let t = told .before .before in let l = t .before .before .loop in omega (arith, l .inv .0 .fair)
 
 element-set-from-state-2 : tie.Need-element-set-from-state-2 Inv-loop μ-loop
-element-set-from-state-2 c = let told = c .before .before in let t = told .before .before in let l = t .before in let h = pop-some (l .loop .inv .0) (t .turn .ensures) (told .enum-told4 .given .1) in omega (arith, l .loop .inv .0 .fair)
+element-set-from-state-2 c = let told = c .before .before in let t = told .before .before in let l = t .before .before .loop in let h = pop-some (l .inv .0) (t .turn .ensures) (told .enum-told3 .given .1) in omega (arith, l .inv .0 .fair)
 
 loop-less-3 : tie.Need-loop-less-3 Inv-loop μ-loop
-loop-less-3 c = let told = c .before .before .before in let t = told .before .before in let l = t .before in pop-less (l .loop .inv .0) (t .turn .ensures) (told .enum-told4 .given .1)
+loop-less-3 c = let told = c .before .before .before .before in let t = told .before .before in let l = t .before .before .loop in rw (c .taken-up .ensures) (pop-less (l .inv .0) (t .turn .ensures) (told .enum-told3 .given .1))
 
 loop-again-3 : tie.Need-loop-again-3 Inv-loop μ-loop
-loop-again-3 c = let told = c .before .before .before in let t = told .before .before in let l = t .before in (rw (c .level-of2 .ensures, c .before .no-entry .ensures) (inv-pop (l .loop .inv .0) (t .turn .ensures) (told .enum-told4 .given .1) _), l .loop .inv .1)
+loop-again-3 c = let told = c .before .before .before .before in let t = told .before .before in let l = t .before .before .loop in (rw (c .taken-up .ensures, c .before .level-of2 .ensures, c .before .before .no-entry .ensures) (inv-pop (l .inv .0) (t .turn .ensures) (told .enum-told3 .given .1) _), l .inv .1)
+
+-- the part is at its end
+returns-2 : tie.Need-returns-2 Inv-loop μ-loop
+returns-2 c =
+    let told = c .before .before .before in let t = told .before .before in let l = t .before .before .loop in let start = t .before .before .before in let test = start .before .before .before in (
+      (λ h. absurd (omega (arith, h, test .before .halted .ensures .1 (test .if1 .left) .0))),
+      λ u e. rw (c .before .entry-of2 .ensures, c .word-of .ensures, l .inv .1 ∙ led-open u _ e)
+          (rest-led (l .inv .0) (t .turn .ensures) (told .enum-told4 .given .1) u (sym (ap runOf e) ∙ rw (start .begun .ensures, start .before .level-of .ensures, test .before .before .mode-of .ensures)) (ap (λ (y : State). y .levels) e) (ap (λ (y : State). y .used) e)),
+    )
 
 pub shiulbart-pieces-part-spec : {M : Type 1} → statement M
 shiulbart-pieces-part-spec =
@@ -110,25 +107,19 @@ shiulbart-pieces-part-spec =
     Inv-loop
     μ-loop
     (λ c κs. search needs)
-    returns
-    returns-2
     (λ c κs. search needs)
-    (λ c. search needs)
-    returns-3
+    returns
+    (λ c κs. search needs)
     (λ c κs. search needs)
     loop-holds
     turn-requires
-    (λ c. search needs)
-    (λ c κs. search needs)
-    (λ c κs. search needs)
-    returns-4
     (λ c. search needs)
     loop-less
     loop-again
     (λ c. search needs)
     cast-k
     (λ c κs. search needs)
-    mul-t28
+    mul-t22
     element-set-from-state
     add-n
     loop-less-2
@@ -139,8 +130,13 @@ shiulbart-pieces-part-spec =
     mul-entry
     element-copy-out-entry
     (λ c κs. search needs)
-    mul-t31
+    mul-t25
     element-set-from-state-2
     (λ c κs. search needs)
+    (λ c κs. search needs)
     loop-less-3
-    loop-again-3)
+    loop-again-3
+    (λ c. search needs)
+    (λ c κs. search needs)
+    (λ c κs. search needs)
+    returns-2)
