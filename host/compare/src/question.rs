@@ -8,6 +8,7 @@ use crate::{hex, pieces, Feeds, Lends, Made, Makes, MakesOfRecords, Outcome, Par
 use crate::{Whole, WholeOf, WholeOfRecords};
 use std::cell::Cell;
 use std::fmt;
+use std::slice::from_ref;
 use std::sync::OnceLock;
 
 pub trait Question: fmt::Display + Sized {
@@ -468,13 +469,15 @@ pub trait Reader: Clone + PartialEq {
 pub struct Fed {
     pub bytes: Vec<u8>,
     pub cuttings: Vec<Cuts>,
+    /// whether it is cut in two at each of its places, and into bytes, too
+    pub everywhere: bool,
     pub after: Vec<u8>,
     /// what the model says of the parts of the first cutting
     pub whole: Outcome,
 }
 
 /// What a reader says of the parts of one cutting.
-#[derive(Clone, PartialEq)]
+#[derive(Clone, Copy, PartialEq)]
 pub struct Finished {
     pub outcome: Outcome,
     /// at the second finish, and at the third, after one more part
@@ -483,9 +486,23 @@ pub struct Finished {
     pub state: Option<&'static str>,
 }
 
+/// What it says of an input that is cut everywhere.
+#[derive(Clone, Copy, PartialEq)]
+pub struct Everywhere {
+    /// how often the input was cut in two, and how many of its bytes were a part of their own
+    pub in_two: usize,
+    pub single_bytes: usize,
+    /// what it says of the single bytes, and what is wrong with its state at the first place where
+    /// something is
+    pub finished: Finished,
+}
+
 /// What it says of each cutting.
 #[derive(PartialEq)]
-pub struct AllFinished(pub Vec<Finished>);
+pub struct AllFinished {
+    pub cuttings: Vec<Finished>,
+    pub everywhere: Option<Everywhere>,
+}
 
 impl Finished {
     /// As it must be: the finish repeats its answer, and the state is as it must be.
@@ -498,13 +515,21 @@ impl Finished {
     }
 }
 
+impl AllFinished {
+    fn each(&self) -> impl Iterator<Item = &Finished> {
+        let everywhere = self.everywhere.as_ref();
+        let single_bytes = everywhere.map(|everywhere| &everywhere.finished);
+        self.cuttings.iter().chain(single_bytes)
+    }
+}
+
 /// Feeds a reader with the parts of each cutting, and looks at its state. The same bytes must lead to the
 /// same one however they are cut; and an empty part, one that comes after the finish, and a finish that is
 /// not the first must not change it.
 pub fn feed<R: Reader>(fed: &Fed) -> AllFinished {
     let mut whole = R::start();
     whole.part(&fed.bytes);
-    let finished = fed.cuttings.iter().map(|cuts| {
+    let cuttings = fed.cuttings.iter().map(|cuts| {
         let mut reader = R::start();
         let mut state = None;
         cuts.each(&fed.bytes, |part| match part {
@@ -520,26 +545,80 @@ pub fn feed<R: Reader>(fed: &Fed) -> AllFinished {
         if reader != whole {
             state = state.or(Some("in one part it is another"));
         }
-        let outcome = reader.finish();
-        let closed = reader.clone();
-        let mut kept = |reader: &R, what| {
-            if *reader != closed {
-                state = state.or(Some(what));
-            }
-        };
-        let second = reader.finish();
-        kept(&reader, "the second finish changes it");
-        reader.part(&fed.after);
-        kept(&reader, "a part after the finish changes it");
-        let third = reader.finish();
-        kept(&reader, "the third finish changes it");
-        Finished {
-            outcome,
-            again: [second, third],
-            state,
-        }
+        finish(reader, &fed.after, state)
     });
-    AllFinished(finished.collect())
+    AllFinished {
+        cuttings: cuttings.collect(),
+        everywhere: fed.everywhere.then(|| feed_everywhere(fed, &whole)),
+    }
+}
+
+/// Cuts an input in two at each of its places, and into bytes. The first of two parts must lead to the same
+/// state as its single bytes, and both parts to that of the whole. A call looks at nothing but the state and
+/// the part, so from equal states on all is equal: only the reader of the single bytes is finished.
+fn feed_everywhere<R: Reader>(fed: &Fed, whole: &R) -> Everywhere {
+    let start = R::start();
+    let mut by_bytes = start.clone();
+    let mut state = None;
+    let (mut in_two, mut single_bytes) = (0, 0);
+    for place in 0..=fed.bytes.len() {
+        let (first, second) = fed.bytes.split_at(place);
+        let mut reader = start.clone();
+        reader.part(first);
+        if reader != by_bytes {
+            state = state.or(Some("byte by byte it is another"));
+        }
+        reader.part(second);
+        if reader != *whole {
+            state = state.or(Some("cut in two it is another"));
+        }
+        in_two += 1;
+        if let Some(byte) = second.first() {
+            by_bytes.part(from_ref(byte));
+            single_bytes += 1;
+        }
+    }
+    Everywhere {
+        in_two,
+        single_bytes,
+        finished: finish(by_bytes, &fed.after, state),
+    }
+}
+
+/// Finishes a reader three times, the last time after one more part, and looks at its state.
+fn finish<R: Reader>(mut reader: R, after: &[u8], mut state: Option<&'static str>) -> Finished {
+    let outcome = reader.finish();
+    let closed = reader.clone();
+    let mut kept = |reader: &R, what| {
+        if *reader != closed {
+            state = state.or(Some(what));
+        }
+    };
+    let second = reader.finish();
+    kept(&reader, "the second finish changes it");
+    reader.part(after);
+    kept(&reader, "a part after the finish changes it");
+    let third = reader.finish();
+    kept(&reader, "the third finish changes it");
+    Finished {
+        outcome,
+        again: [second, third],
+        state,
+    }
+}
+
+/// The bytes without as many at their end as can go while they differ.
+fn without_end(bytes: &[u8], differs: impl Fn(&[u8]) -> bool) -> &[u8] {
+    let mut bytes = bytes;
+    let mut size = bytes.len();
+    while size > 0 {
+        let shorter = &bytes[..bytes.len().saturating_sub(size)];
+        match shorter.len() < bytes.len() && differs(shorter) {
+            true => bytes = shorter,
+            false => size /= 2,
+        }
+    }
+    bytes
 }
 
 impl Fed {
@@ -548,20 +627,37 @@ impl Fed {
         Fed {
             bytes,
             cuttings,
+            everywhere: false,
             after,
             whole,
+        }
+    }
+
+    /// Cut in two at each of its places, and into bytes, too.
+    pub fn everywhere(self) -> Fed {
+        Fed {
+            everywhere: true,
+            ..self
         }
     }
 
     /// The same for every cutting: the parts joined are the same bytes. That the finish repeats its
     /// answer is written here once more; tests hold it to the model's own finish.
     pub fn right(&self) -> AllFinished {
-        AllFinished(vec![Finished::steady(self.whole); self.cuttings.len()])
+        self.steady(self.whole)
     }
 
     /// What is said if all cuttings must say the same.
     pub fn steady(&self, outcome: Outcome) -> AllFinished {
-        AllFinished(vec![Finished::steady(outcome); self.cuttings.len()])
+        let finished = Finished::steady(outcome);
+        AllFinished {
+            cuttings: vec![finished; self.cuttings.len()],
+            everywhere: self.everywhere.then_some(Everywhere {
+                in_two: self.bytes.len() + 1,
+                single_bytes: self.bytes.len(),
+                finished,
+            }),
+        }
     }
 
     /// The question with one cutting.
@@ -569,15 +665,33 @@ impl Fed {
         Fed {
             bytes: self.bytes.clone(),
             cuttings: vec![cuts],
+            everywhere: false,
             after: after.to_vec(),
             whole: self.whole,
         }
     }
 
-    /// The one cutting that shows a difference.
+    /// The one cutting that shows a difference, if one does.
+    fn one_cutting(&self, differs: &dyn Fn(&Fed) -> bool) -> Option<Fed> {
+        let places = 0..=self.bytes.len();
+        let everywhere = places.map(Cuts::InTwo).chain([Cuts::Each(1)]);
+        let everywhere = everywhere.filter(|_| self.everywhere);
+        let mut each = self.cuttings.iter().cloned().chain(everywhere);
+        each.find_map(|cuts| Some(self.with(cuts, &self.after)).filter(differs))
+    }
+
+    /// The one cutting that shows a difference. It may be one in the state after some of the bytes, which is
+    /// gone after the others: then the fewest bytes that differ end where it is.
     fn telling(&self, differs: &dyn Fn(&Fed) -> bool) -> Fed {
-        let mut each = self.cuttings.iter();
-        each.find_map(|cuts| Some(self.with(cuts.clone(), &self.after)).filter(differs))
+        let first_bytes = || {
+            let only = |bytes: &[u8]| {
+                Fed::new(bytes.to_vec(), vec![Cuts::At(vec![])], self.after.clone()).everywhere()
+            };
+            let fewest = without_end(&self.bytes, |bytes| differs(&only(bytes)));
+            only(fewest).one_cutting(differs)
+        };
+        self.one_cutting(differs)
+            .or_else(first_bytes)
             .expect("it differs with one of the cuttings")
     }
 
@@ -600,15 +714,7 @@ impl Fed {
             Fed::new(bytes.to_vec(), cuttings, own.after.clone())
         };
         let telling = |bytes: &[u8]| tries.one_more() && differs(&cut(bytes));
-        let mut bytes = own.bytes.clone();
-        let mut size = bytes.len();
-        while size > 0 {
-            let shorter = bytes.len().saturating_sub(size);
-            match shorter < bytes.len() && telling(&bytes[..shorter]) {
-                true => bytes.truncate(shorter),
-                false => size /= 2,
-            }
-        }
+        let mut bytes = without_end(&own.bytes, telling).to_vec();
         if bytes.len() <= LONGEST {
             bytes = shrink(&bytes, telling);
         }
@@ -649,7 +755,7 @@ impl Question for Fed {
     }
 
     fn outcomes(said: &AllFinished) -> Vec<Outcome> {
-        said.0.iter().map(|finished| finished.outcome).collect()
+        said.each().map(|finished| finished.outcome).collect()
     }
 }
 
@@ -676,14 +782,19 @@ fn in_rows(bytes: &[u8]) -> String {
 impl fmt::Display for Fed {
     fn fmt(&self, out: &mut fmt::Formatter<'_>) -> fmt::Result {
         match &self.cuttings[..] {
-            [cuts] => {
+            [cuts] if !self.everywhere => {
                 let parts = cuts.parts(&self.bytes).into_iter().map(in_rows);
                 match &parts.collect::<Vec<String>>()[..] {
                     [] => write!(out, "(no part)")?,
                     parts => write!(out, "{}", parts.join(" / "))?,
                 }
             }
-            all => write!(out, "{} | cut in {} ways", in_rows(&self.bytes), all.len())?,
+            all => {
+                write!(out, "{} | cut in {} ways", in_rows(&self.bytes), all.len())?;
+                if self.everywhere {
+                    write!(out, ", and everywhere")?;
+                }
+            }
         }
         match &self.after[..] {
             [] => Ok(()),
@@ -709,7 +820,7 @@ impl fmt::Display for Finished {
 impl fmt::Display for AllFinished {
     fn fmt(&self, out: &mut fmt::Formatter<'_>) -> fmt::Result {
         let mut different: Vec<&Finished> = Vec::new();
-        for finished in &self.0 {
+        for finished in self.each() {
             if !different.contains(&finished) {
                 different.push(finished);
             }

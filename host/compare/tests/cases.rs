@@ -1,15 +1,17 @@
 //! The inputs are the same on every machine, and reach every depth and number.
 
 use compare::cases::fills::{Chains, FillInputs, JoinInputs};
-use compare::cases::pieces::{always_pieces, Cutter, PieceInputs, BETWEEN, LAST_PLACE};
+use compare::cases::pieces::{always_pieces, too_long, Cutter, PieceInputs, BETWEEN, LONG};
 use compare::cases::sheets::{symbol_of, SheetInputs};
 use compare::cases::table::{doubled, largest, m4_table, wrapping, RecordTable, Table, M4};
 use compare::cases::tables::records::{always_records, RecordInputs};
 use compare::cases::tables::{always_write, EncodingInputs, WriteInputs};
 use compare::cases::{any_k, Inputs, PartInputs};
-use compare::question::Cuts;
+use compare::question::{feed, Reader};
 use compare::random::Random;
-use compare::{fill, join, read, sheet, table, write};
+use compare::{fill, join, read, sheet, table, write, Outcome};
+use std::cell::RefCell;
+use std::collections::HashSet;
 
 #[test]
 fn same_seed_same_inputs() {
@@ -44,7 +46,7 @@ fn same_seed_same_inputs() {
     assert!(inputs(1) == inputs(1));
     assert!(inputs(1) != inputs(2));
     let cuttings = |seed| {
-        let mut cutter = Cutter::new(seed, 64);
+        let mut cutter = Cutter::new(seed);
         let inputs = PieceInputs::new(1).take(500);
         let fed = inputs.map(|bytes| cutter.cut(bytes));
         fed.map(|fed| (fed.cuttings, fed.after)).collect::<Vec<_>>()
@@ -346,16 +348,29 @@ fn encodings_for_tables_are_mostly_accepted() {
     assert!(made.iter().any(|&length| length > 50_000));
 }
 
-/// Every input for `read`, in its order, and between them some that are too long.
+/// Every input for `read` that is not long, in its order, some of the long ones, and between them some that
+/// are too long.
 #[test]
-fn every_input_for_read_in_parts() {
-    let mut all = PieceInputs::new(1);
-    for (i, bytes) in Inputs::new(1).take(5000).enumerate() {
-        if i > 0 && i % BETWEEN == 0 {
-            assert!(all.next().unwrap().len() > 2048);
+fn inputs_for_read_in_parts() {
+    let mut all = PieceInputs::new(1).enumerate();
+    let mut long = [0; 2];
+    let mut next = || loop {
+        let (i, bytes) = all.next().unwrap();
+        match i % (BETWEEN + 1) == BETWEEN {
+            true => assert!(bytes.len() > 2048),
+            false => return bytes,
         }
-        assert_eq!(all.next(), Some(bytes));
+    };
+    let mut taken = next();
+    for bytes in Inputs::new(1).take(20_000) {
+        let same = bytes == taken;
+        assert!(same || bytes.len() > LONG);
+        long[same as usize] += (bytes.len() > LONG) as usize;
+        if same {
+            taken = next();
+        }
     }
+    assert!(long[1] > 100 && long[0] > 10 * long[1], "{long:?}");
 }
 
 /// Inputs that are too long by one and by many: in front what would be accepted, each number but 8, and
@@ -365,8 +380,10 @@ fn longer_inputs() {
     let mut numbers = [0; 9];
     let mut lengths = Vec::new();
     let mut wraps = 0;
-    let generated = PieceInputs::new(1).take(60_000);
-    for bytes in generated.filter(|bytes| bytes.len() > 2048) {
+    let mut random = Random::new(1);
+    for _ in 0..2000 {
+        let bytes = too_long(&mut random);
+        assert!(bytes.len() > 2048);
         let wrapped = bytes.len() % 65_536;
         wraps += (bytes.len() > 65_535 && read::model(&bytes[..wrapped]).number == 0) as usize;
         lengths.push(bytes.len());
@@ -386,33 +403,62 @@ fn longer_inputs() {
     assert!(always_pieces().iter().any(|bytes| bytes.len() == 2049));
 }
 
-/// The parts of each cutting are the input again; among them are empty ones, single bytes and whole inputs.
+thread_local! {
+    /// each state of a `Listed` that was compared
+    static LISTED: RefCell<HashSet<Vec<usize>>> = RefCell::default();
+}
+
+/// A reader whose state is how long its parts are. It is equal to any other.
+#[derive(Clone)]
+struct Listed(Vec<usize>);
+
+impl PartialEq for Listed {
+    fn eq(&self, other: &Listed) -> bool {
+        let both = [self, other].map(|reader| reader.0.clone());
+        LISTED.with_borrow_mut(|listed| listed.extend(both));
+        true
+    }
+}
+
+impl Reader for Listed {
+    fn start() -> Self {
+        Listed(vec![])
+    }
+
+    fn part(&mut self, part: &[u8]) {
+        self.0.push(part.len());
+    }
+
+    fn finish(&mut self) -> Outcome {
+        Outcome::answer(0, 0)
+    }
+}
+
+/// An input is fed cut at several places, with empty parts among them, in two at each of its places, and
+/// byte by byte.
 #[test]
 fn every_way_to_cut() {
-    let mut cutter = Cutter::new(1, 64);
-    let (mut empty, mut single, mut parts) = (0, 0, 0);
-    for bytes in PieceInputs::new(1).take(20_000) {
+    let mut cutter = Cutter::new(1);
+    let mut empty = 0;
+    let inputs = PieceInputs::new(1).filter(|bytes| bytes.len() < 600);
+    for bytes in inputs.take(3000) {
         let length = bytes.len();
         let fed = cutter.cut(bytes);
+        let said = feed::<Listed>(&fed).everywhere.unwrap();
+        assert_eq!((said.in_two, said.single_bytes), (length + 1, length));
+        let listed = LISTED.take();
+        let was_fed = |parts: Vec<usize>| assert!(listed.contains(&parts), "{parts:?} on {fed}");
         for cuts in &fed.cuttings {
             let own = cuts.parts(&fed.bytes);
             assert!(own.concat() == fed.bytes);
-            empty += own.iter().filter(|part| part.is_empty()).count();
-            single += own.iter().filter(|part| part.len() == 1).count();
-            parts += own.len();
+            let lengths: Vec<usize> = own.iter().map(|part| part.len()).collect();
+            empty += lengths.contains(&0) as usize;
+            was_fed(lengths);
         }
-        let every_place = (0..=length).all(|place| fed.cuttings.contains(&Cuts::InTwo(place)));
-        assert_eq!(every_place, length <= 64, "{length}");
+        for place in 0..=length {
+            was_fed(vec![place, length - place]);
+            was_fed(vec![1; place]);
+        }
     }
-    assert!(
-        empty > 20_000 && single > 100_000,
-        "{empty} {single} {parts}"
-    );
-    assert!(cutter.into_bytes > 5000, "{}", cutter.into_bytes);
-    assert_eq!(cutter.in_two.len(), LAST_PLACE + 1);
-    // longer inputs in turn: there is no place that only chance could cut
-    let cut = cutter.in_two.iter().filter(|&&times| times > 0).count();
-    assert!(cut > 1000, "{cut}");
-    let fed = cutter.cut_everywhere(vec![0; 2049]);
-    assert!((0..=2049).all(|place| fed.cuttings.contains(&Cuts::InTwo(place))));
+    assert!(empty > 1000, "{empty}");
 }

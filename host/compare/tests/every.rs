@@ -81,10 +81,19 @@ fn tables_agree(bytes: &[u8]) {
     assert!(single.ask(table::fast) == right, "fast, on {single}");
 }
 
-/// An input that is cut in these ways, with a part after the finish. The finish of the model, too, must say
-/// what `right` tells of it.
+/// An input that is cut in these ways, with a part after the finish.
 fn pieces_agree(bytes: &[u8], cuttings: &[Cuts], after: &[u8]) {
-    let fed = Fed::new(bytes.to_vec(), cuttings.to_vec(), after.to_vec());
+    fed_agrees(Fed::new(bytes.to_vec(), cuttings.to_vec(), after.to_vec()));
+}
+
+/// An input in one part, cut in two at each of its places, and into bytes.
+fn pieces_agree_everywhere(bytes: &[u8], after: &[u8]) {
+    let one_part = vec![Cuts::At(vec![])];
+    fed_agrees(Fed::new(bytes.to_vec(), one_part, after.to_vec()).everywhere());
+}
+
+/// The finish of the model, too, must say what `right` tells of it.
+fn fed_agrees(fed: Fed) {
     let right = fed.right();
     assert!(fed.ask(pieces::proved) == right, "proved, on {fed}");
     assert!(fed.ask(pieces::fast::<0>) == right, "fast, on {fed}");
@@ -670,7 +679,7 @@ fn twelve_is_the_models_own() {
 fn every_cut_of_every_input_of_up_to_two_bytes() {
     let after = [0x20];
     pieces_agree(&[], &[vec![], vec![0], vec![0, 0]].map(Cuts::At), &after);
-    pieces_agree(&[], &[Cuts::Each(1)], &after);
+    pieces_agree_everywhere(&[], &after);
     for first in 0..=255 {
         pieces_agree(&[first], &all_cuts(1), &after);
         for second in 0..=255 {
@@ -689,9 +698,8 @@ fn every_cut_of_every_payload_of_up_to_two_bytes() {
                 pieces_agree(&[first, size, 0, a], &all_cuts(4), &[a]);
             }
         }
-        let in_two: Vec<Cuts> = (0..=5).map(Cuts::InTwo).collect();
         for (a, b) in (0..=255).flat_map(|a| (0..=255).map(move |b| (a, b))) {
-            pieces_agree(&[first, 2, 0, a, b], &in_two, &[b]);
+            pieces_agree_everywhere(&[first, 2, 0, a, b], &[b]);
         }
     }
 }
@@ -717,16 +725,14 @@ fn every_cut_of_texts_of_three_telling_bytes() {
         0x00, 0x7F, 0x80, 0x8F, 0x90, 0x9F, 0xA0, 0xBF, 0xC1, 0xC2, 0xDF, 0xE0, 0xED, 0xEF, 0xF0,
         0xF3, 0xF4, 0xF5,
     ];
-    let mut cuts: Vec<Cuts> = (4..=9).map(Cuts::InTwo).collect();
-    cuts.push(Cuts::Each(1));
     for number in 0..TELLING.len().pow(3) {
         let byte = |power| TELLING[number / TELLING.len().pow(power) % TELLING.len()];
         let [a, b, c] = [byte(0), byte(1), byte(2)];
         for d in [0x41, 0x80, 0xC2] {
             // the text is complete, ends early, and never ends
-            pieces_agree(&[0x44, 6, 0, 1, 4, a, b, c, d], &cuts, &[0x80]);
-            pieces_agree(&[0x44, 7, 0, 2, 3, a, b, c, 0, d], &cuts, &[0x80]);
-            pieces_agree(&[0x44, 9, 0, 1, 7, a, b, c, d], &cuts, &[0x80]);
+            pieces_agree_everywhere(&[0x44, 6, 0, 1, 4, a, b, c, d], &[0x80]);
+            pieces_agree_everywhere(&[0x44, 7, 0, 2, 3, a, b, c, 0, d], &[0x80]);
+            pieces_agree_everywhere(&[0x44, 9, 0, 1, 7, a, b, c, d], &[0x80]);
         }
     }
 }

@@ -5,11 +5,11 @@ use compare::cases::table::{
     chain, doubled, kind, largest, letters, wrapping, Node, RecordTable, Table,
 };
 use compare::cases::{function, long, nested, record, symbol};
-use compare::question::{Cuts, Fed, Pair, Question, Records, Shrink, Single};
+use compare::question::{feed, Cuts, Fed, Pair, Question, Reader, Records, Shrink, Single};
 use compare::read::{self, WRONG};
 use compare::shrink::{shrink, shrink_sheet, shrink_table};
 use compare::{child, fill, hex, join, name, pieces, sheet, table, write, write_records};
-use compare::{Lends, Makes, Whole, WholeOf, WrongLends, WrongMakes};
+use compare::{Feeds, Lends, Makes, Outcome, Whole, WholeOf, WrongLends, WrongMakes};
 use shiulbart::NodeRecord;
 
 #[test]
@@ -1197,4 +1197,55 @@ fn a_difference_in_parts_is_made_small() {
     let fault = "counts a part after the finish";
     let small = smallest(fault, &wide, cuttings, &[0xFF; 3000]);
     assert_eq!(small.to_string(), "(no bytes) | 20 after the finish");
+}
+
+/// A reader that is wrong in its state alone, and only while it has so many bytes: it notes how long the last
+/// part was.
+#[derive(Clone, PartialEq)]
+struct WrongBetween<const FROM: usize, const TO: usize> {
+    right: shiulbart::Pieces,
+    noted: usize,
+}
+
+impl<const FROM: usize, const TO: usize> Reader for WrongBetween<FROM, TO> {
+    fn start() -> Self {
+        WrongBetween {
+            right: Reader::start(),
+            noted: 0,
+        }
+    }
+
+    fn part(&mut self, part: &[u8]) {
+        self.right.part(part);
+        if !part.is_empty() {
+            let wrong = (FROM..=TO).contains(&self.right.count());
+            self.noted = part.len() * wrong as usize;
+        }
+    }
+
+    fn finish(&mut self) -> Outcome {
+        Reader::finish(&mut self.right)
+    }
+}
+
+/// A state that differs where an input is cut somewhere: in the end, and on the way only.
+#[test]
+fn a_difference_somewhere_is_made_small() {
+    let found = |wrong: Feeds, bytes: &[u8], words: &str| {
+        let differs = |fed: &Fed| fed.ask(wrong) != fed.right();
+        let fed = || Fed::new(bytes.to_vec(), vec![Cuts::At(vec![])], vec![]);
+        assert!(!differs(&fed()));
+        let fed = fed().everywhere();
+        assert!(fed.ask(wrong).to_string().ends_with(words));
+        let small = fed.smallest(&differs);
+        assert_eq!((small.cuttings.len(), small.everywhere), (1, false));
+        format!("{small}: {}", small.ask(wrong))
+    };
+    let other = "(its state: in one part it is another)";
+    let in_two = "(its state: cut in two it is another)";
+    let on_the_way = "(its state: byte by byte it is another)";
+    let small = found(feed::<WrongBetween<70, 70>>, &[0x60; 70], in_two);
+    assert_eq!(small, format!("00 / 00x69: no 3 1 {other}"));
+    let small = found(feed::<WrongBetween<70, 90>>, &[0x60; 700], on_the_way);
+    assert_eq!(small, format!("00 / 00x69: no 3 1 {other}"));
 }

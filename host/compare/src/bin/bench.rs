@@ -689,6 +689,45 @@ fn empty_pieces(input: &Input, _: &mut [u8]) -> bool {
     black_box(reader.finish()).is_ok()
 }
 
+/// As large as the state of the piece reader, whose type is private.
+#[repr(C)]
+#[derive(Clone, Copy)]
+struct State([u16; size_of::<Pieces>() / 2]);
+
+const _: () = assert!(size_of::<State>() == size_of::<Pieces>());
+const _: () = assert!(align_of::<State>() == align_of::<Pieces>());
+
+/// Takes a state and a part as the piece reader's call does, and only gives the state back.
+#[inline(never)]
+extern "C" fn given_back(state: State, part: *const u8, length: usize) -> State {
+    black_box((&state, part, length));
+    state
+}
+
+/// Keeps a state between the calls, as [`Pieces`] does.
+struct Keeper {
+    state: State,
+}
+
+impl Keeper {
+    #[inline]
+    fn feed(&mut self, part: &[u8]) {
+        self.state = given_back(self.state, part.as_ptr(), part.len());
+    }
+}
+
+/// As many parts of one byte as the input has, with which nothing is done.
+#[inline(never)]
+fn kept_pieces(input: &Input, _: &mut [u8]) -> bool {
+    let mut keeper = black_box(Keeper {
+        state: State([0; size_of::<Pieces>() / 2]),
+    });
+    for part in input.first.chunks(1) {
+        keeper.feed(part);
+    }
+    black_box(keeper).state.0[0] == 0
+}
+
 /// The start and the finish.
 #[inline(never)]
 fn no_pieces(_: &Input, _: &mut [u8]) -> bool {
@@ -903,11 +942,13 @@ fn times_of_pieces() {
     ];
     for (i, (place, bytes)) in single.into_iter().enumerate() {
         let (case, bytes) = (one("", &bytes, 0), bytes.len() as f64);
-        let programs = [no_pieces, empty_pieces, proved_pieces::<1>];
-        let [none, empty, parts] = least(&programs, &case.inputs)[..] else {
+        let programs = [kept_pieces, no_pieces, empty_pieces, proved_pieces::<1>];
+        let [kept, none, empty, parts] = least(&programs, &case.inputs)[..] else {
             unreachable!("each program has its time");
         };
         if i == 0 {
+            let back = "a call that takes a state and gives it back";
+            println!("| {back} | {:.1} |", kept / bytes);
             println!("| the start and the finish | {none:.1} |");
             println!("| a part of no bytes | {:.1} |", (empty - none) / bytes);
         }

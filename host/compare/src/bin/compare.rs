@@ -1,7 +1,7 @@
 //! Compares the proved calls with the independent model, case by case. See README.md.
 
 use compare::cases::fills::{Chains, FillInputs, JoinInputs};
-use compare::cases::pieces::{always_pieces, Cutter, PieceInputs, BETWEEN, LAST_PLACE};
+use compare::cases::pieces::{always_pieces, Cutter, PieceInputs};
 use compare::cases::sheets::SheetInputs;
 use compare::cases::table::RecordTable;
 use compare::cases::tables::records::{always_records, RecordInputs};
@@ -9,7 +9,7 @@ use compare::cases::tables::{always_write, EncodingInputs, WriteInputs};
 use compare::cases::{any_k, Inputs, PartInputs};
 use compare::fast::sheet::{check, Rule};
 use compare::fast::write as fast_write;
-use compare::question::{AllLent, Bytes, Fed, Pair, Part, Question, Records, Single};
+use compare::question::{AllFinished, AllLent, Bytes, Fed, Pair, Part, Question, Records, Single};
 use compare::random::Random;
 use compare::read::{self, WRONG};
 use compare::shrink::{shrink, shrink_sheet, shrink_table};
@@ -17,7 +17,6 @@ use compare::{
     cases, child, fill, hex, join, name, pieces, sheet, table, write, write_records, Outcome,
     Parts, Whole, WholeOf,
 };
-use std::cell::RefCell;
 use std::process::ExitCode;
 use std::time::{Duration, Instant};
 
@@ -36,9 +35,9 @@ const PAIR_CASES: usize = 20_000;
 const TABLE_CASES: usize = 20_000;
 const CHAINS: usize = 4_000;
 
-/// Inputs of so many bytes are fed to the piece reader cut in two at every place: in the gate, and else.
-const EVERY_PLACE_IN_GATE: usize = 64;
-const EVERY_PLACE: usize = 256;
+/// Fewer than for `read`: the piece reader is fed with an input again for each place that it is cut at, so
+/// that a case takes as long as some 25 of `read`.
+const PIECES_CASES: usize = 35_000;
 
 /// The numbers of the wrong models: those of `child` follow those of `read`, and so on.
 const WRONG_CHILD: usize = WRONG.len();
@@ -235,11 +234,26 @@ struct Call<Q: Question> {
     every_sort: bool,
 }
 
+/// The first of the programs that are asked.
+const PROVED: usize = 0;
+
 /// Asks the programs of a call, and compares what they say.
 fn compare<Q: Question>(
     call: &Call<Q>,
     fixed: Vec<Q>,
     generated: impl Iterator<Item = Q>,
+    options: &Options,
+    count: &mut Count,
+) {
+    compare_and_note(call, fixed, generated, |_, _| (), options, count);
+}
+
+/// The same, and notes what the proved call says of each generated question.
+fn compare_and_note<Q: Question>(
+    call: &Call<Q>,
+    fixed: Vec<Q>,
+    generated: impl Iterator<Item = Q>,
+    mut note: impl FnMut(&Q, &Q::Said),
     options: &Options,
     count: &mut Count,
 ) {
@@ -268,8 +282,11 @@ fn compare<Q: Question>(
             sorts[sort].1 += 1;
         }
         let mut same = true;
-        for &(name, other) in &programs {
+        for (which, &(name, other)) in programs.iter().enumerate() {
             let said = question.ask(other);
+            if which == PROVED && i >= generated_from {
+                note(&question, &said);
+            }
             if said == right {
                 continue;
             }
@@ -680,10 +697,8 @@ fn compare_records(options: &Options, count: &mut Count) {
     compare(&call, fixed, generated, options, count);
 }
 
-/// Compares the piece reader on every input of `read`, and on longer ones, each cut in many ways; with
-/// `read`, too.
+/// Compares the piece reader on inputs of `read`, and on longer ones, each cut everywhere; with `read`, too.
 fn compare_pieces(options: &Options, count: &mut Count) {
-    let own = always_pieces();
     let call = Call::<Fed> {
         name: "pieces",
         proved: pieces::proved,
@@ -694,8 +709,7 @@ fn compare_pieces(options: &Options, count: &mut Count) {
         model: Fed::right,
         wrong: &pieces::WRONG,
         wrong_before: WRONG_PIECES,
-        // all that are generated for `read`, and those that come between them
-        gate: READ_CASES + READ_CASES / BETWEEN + own.len(),
+        gate: PIECES_CASES,
         numbers: &READ_NUMBERS,
         smallest: Fed::smallest,
         head: ["depth", "answers"],
@@ -703,39 +717,52 @@ fn compare_pieces(options: &Options, count: &mut Count) {
         sort: |fed, _| (fed.whole.extra as usize).checked_sub(1),
         every_sort: false,
     };
-    let every_place = match options.gate {
-        true => EVERY_PLACE_IN_GATE,
-        false => EVERY_PLACE,
-    };
-    let fixed = cases::always().into_iter().chain(own);
-    let mut cutter = Cutter::new(options.seed, every_place);
-    let fixed = fixed.map(|bytes| cutter.cut_everywhere(bytes)).collect();
-    // only the generated ones count
-    let cutter = RefCell::new(Cutter::new(options.seed, every_place));
-    let generated = PieceInputs::new(options.seed).map(|bytes| cutter.borrow_mut().cut(bytes));
-    compare(&call, fixed, generated, options, count);
-    print_cuts(&cutter.into_inner(), call.gate, options, count);
+    let fixed = cases::always().into_iter().chain(always_pieces());
+    let mut cutter = Cutter::new(options.seed);
+    let fixed = fixed.map(|bytes| cutter.cut(bytes)).collect();
+    let mut cutter = Cutter::new(options.seed);
+    let generated = PieceInputs::new(options.seed).map(|bytes| cutter.cut(bytes));
+    let mut cuts = CutCount::default();
+    let note = |fed: &Fed, said: &AllFinished| cuts.add(fed, said);
+    compare_and_note(&call, fixed, generated, note, options, count);
+    cuts.print(count);
 }
 
-/// How the generated inputs were cut. In the gate's cases, or more, each place must have been.
-fn print_cuts(cutter: &Cutter, gate: usize, options: &Options, count: &mut Count) {
-    let Cutter {
-        in_two,
-        cuttings,
-        into_bytes,
-        ..
-    } = cutter;
-    println!("  {cuttings} times an input was cut, {into_bytes} of them into bytes");
-    let (place, times) = in_two
-        .iter()
-        .enumerate()
-        .min_by_key(|least| least.1)
-        .unwrap();
-    println!(
-        "  cut in two at each place from 0 to {LAST_PLACE}: least often at {place}, {times} times"
-    );
-    if options.gate || options.cases >= gate {
-        count.of(*times > 0);
+/// How the generated inputs were cut, as the proved reader was fed with them.
+#[derive(Default)]
+struct CutCount {
+    inputs: usize,
+    /// the ways in which they were fed
+    ways: usize,
+    /// the inputs that were cut in two at each of their places, and those that were cut into bytes
+    in_two: usize,
+    into_bytes: usize,
+}
+
+impl CutCount {
+    fn add(&mut self, fed: &Fed, said: &AllFinished) {
+        let length = fed.bytes.len();
+        self.inputs += 1;
+        self.ways += said.cuttings.len();
+        if let Some(everywhere) = said.everywhere {
+            self.ways += everywhere.in_two + 1;
+            self.in_two += (everywhere.in_two == length + 1) as usize;
+            self.into_bytes += (everywhere.single_bytes == length) as usize;
+        }
+    }
+
+    /// Each input must have been cut in two at each of its places, and into bytes.
+    fn print(&self, count: &mut Count) {
+        let CutCount {
+            inputs,
+            ways,
+            in_two,
+            into_bytes,
+        } = self;
+        println!("  {inputs} generated inputs were fed in {ways} ways");
+        println!("  {in_two} were cut in two at each of their places, {into_bytes} into bytes");
+        count.of(in_two == inputs);
+        count.of(into_bytes == inputs);
     }
 }
 

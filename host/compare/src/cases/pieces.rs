@@ -1,21 +1,27 @@
-//! Inputs for the piece reader, which are those for `read` and longer ones, and how they are cut.
+//! Inputs for the piece reader, which are inputs for `read` and longer ones, and how they are cut.
 
 use super::{any_tree, changed, encode, leb128, long, random_bytes, symbol};
 use super::{Inputs, Slip, MAX_BYTES, SLIPS, SYMBOL, TELLING};
 use crate::question::{Cuts, Fed};
 use crate::random::Random;
 
-/// After so many inputs for `read` comes one that is too long.
-pub const BETWEEN: usize = 50;
+/// Of the inputs for `read` over so many bytes one in so many is taken. An input is cut at each of its places
+/// and read whole each time: these, one in six, would take ten times as long as all the others.
+pub const LONG: usize = 256;
+const ONE_LONG_IN: usize = 16;
 
-/// The last place that must be cut at: just behind the first byte too many.
-pub const LAST_PLACE: usize = MAX_BYTES + 1;
+/// After so many inputs for `read` comes one that is too long. It takes as long as some fifty others.
+pub const BETWEEN: usize = 200;
+
+/// Of those that are too long one in so many has 65,535 bytes or more: as many places as some thousand
+/// others together.
+const ONE_FAR_IN: usize = 16;
 
 /// Two bytes cannot count so many.
 const WRAPS: usize = 65_536;
 
-/// Generated inputs for the piece reader, without end. Those for `read` with the same seed are among
-/// them, in their order.
+/// Generated inputs for the piece reader, without end. Of those for `read` with the same seed all that are
+/// not long are among them, in their order.
 pub struct PieceInputs {
     inputs: Inputs,
     random: Random,
@@ -36,20 +42,22 @@ impl Iterator for PieceInputs {
     type Item = Vec<u8>;
 
     fn next(&mut self) -> Option<Vec<u8>> {
+        let random = &mut self.random;
         if self.before == BETWEEN {
             self.before = 0;
-            return Some(too_long(&mut self.random));
+            return Some(too_long(random));
         }
         self.before += 1;
-        self.inputs.next()
+        self.inputs
+            .find(|bytes| bytes.len() <= LONG || random.once_in(ONE_LONG_IN))
     }
 }
 
 /// An input over 2,048 bytes, by one or by many. In front is a shape that would be accepted, or one
-/// with a fault; some are as long as two bytes count, or longer by as much as the shape is long.
-fn too_long(random: &mut Random) -> Vec<u8> {
+/// with a fault; a few are as long as two bytes count, or longer by as much as the shape is long.
+pub fn too_long(random: &mut Random) -> Vec<u8> {
     if random.once_in(6) {
-        return one_text(random.between(MAX_BYTES - 5, 16_383));
+        return one_text(random.between(MAX_BYTES - 5, 2 * MAX_BYTES));
     }
     let tree = any_tree(random, MAX_BYTES);
     let slip = random.pick(&SLIPS);
@@ -62,14 +70,14 @@ fn too_long(random: &mut Random) -> Vec<u8> {
         }
         _ => random_bytes(random),
     };
-    let length = match random.below(16) {
-        0..=5 => MAX_BYTES + 1,
-        6 => MAX_BYTES + 2,
-        7..=10 => random.between(MAX_BYTES + 1, 3 * MAX_BYTES),
-        11 => random.pick(&[WRAPS - 1, WRAPS, WRAPS + 1]),
-        12 => WRAPS + MAX_BYTES,
-        13 => random.between(WRAPS, WRAPS + MAX_BYTES),
-        _ => WRAPS + bytes.len(),
+    let length = match (random.once_in(ONE_FAR_IN), random.below(12)) {
+        (false, 0..=5) => MAX_BYTES + 1,
+        (false, 6) => MAX_BYTES + 2,
+        (false, _) => random.between(MAX_BYTES + 1, 2 * MAX_BYTES),
+        (true, 0..=2) => random.pick(&[WRAPS - 1, WRAPS, WRAPS + 1]),
+        (true, 3) => WRAPS + MAX_BYTES,
+        (true, 4 | 5) => random.between(WRAPS, WRAPS + MAX_BYTES),
+        (true, _) => WRAPS + bytes.len(),
     };
     let filler = random.pick(&[0x00, 0x20, 0x61, 0xFF]);
     bytes.resize(length.max(MAX_BYTES + 1), filler);
@@ -100,13 +108,13 @@ pub fn always_pieces() -> Vec<Vec<u8>> {
         &[0x43, 0xFF, 0xFF, 0x00, 0xFF],
         &[0x44, 0x03, 0x00, 0x81, 0x00, 0x00],
     ];
-    for front in fronts {
+    for (i, front) in fronts.into_iter().enumerate() {
         for length in [MAX_BYTES, MAX_BYTES + 1, MAX_BYTES + 2, 5000] {
             inputs.push(filled(front, length));
         }
-        for length in [WRAPS - 1, WRAPS, WRAPS + front.len(), WRAPS + MAX_BYTES + 1] {
-            inputs.push(filled(front, length));
-        }
+        // these have very many places to be cut at: each front has one of them
+        let far = [WRAPS + front.len(), WRAPS, WRAPS - 1, WRAPS + MAX_BYTES + 1];
+        inputs.push(filled(front, far[i % far.len()]));
     }
     inputs.extend([16_383, 2044].map(one_text));
     // a text that ends with the last byte that may be there, and one in which it ends
@@ -120,61 +128,23 @@ pub fn always_pieces() -> Vec<Vec<u8>> {
     inputs
 }
 
-/// How inputs are cut. It counts at which places.
+/// How inputs are cut.
 pub struct Cutter {
     random: Random,
-    /// inputs of so many bytes or fewer are cut in two at every place
-    every_place: usize,
-    /// the place that a longer input is cut at next, if it has it
-    turn: usize,
-    /// how often an input was cut in two at each place, up to the last that must be
-    pub in_two: Vec<usize>,
-    /// how often in any way, and how often into bytes
-    pub cuttings: usize,
-    pub into_bytes: usize,
 }
 
 impl Cutter {
-    pub fn new(seed: u64, every_place: usize) -> Cutter {
+    pub fn new(seed: u64) -> Cutter {
         Cutter {
             random: Random::new(seed.wrapping_add(203)),
-            every_place,
-            turn: 0,
-            in_two: vec![0; LAST_PLACE + 1],
-            cuttings: 0,
-            into_bytes: 0,
         }
     }
 
-    /// An input, cut at several places; in two at every place if it is short, and else at one place that
-    /// is any and one whose turn it is; and into bytes, or into equal parts.
+    /// An input in one part, cut at several places, in two at each of its places, and into bytes.
     pub fn cut(&mut self, bytes: Vec<u8>) -> Fed {
-        let mut cuttings = vec![self.several(bytes.len())];
-        match bytes.len() {
-            length if length <= self.every_place => {
-                cuttings.extend((0..=length).map(Cuts::InTwo));
-                cuttings.push(Cuts::Each(1));
-            }
-            length => {
-                cuttings.push(Cuts::InTwo(self.random.below(length + 1)));
-                if self.turn <= length {
-                    cuttings.push(Cuts::InTwo(self.turn));
-                    self.turn = (self.turn + 1) % (LAST_PLACE + 1);
-                }
-                cuttings.push(Cuts::Each(self.size(length)));
-            }
-        }
-        self.count(&cuttings);
+        let cuttings = vec![self.several(bytes.len()), Cuts::At(vec![])];
         let after = self.after(&bytes);
-        Fed::new(bytes, cuttings, after)
-    }
-
-    /// An input that is cut in two at every place, however long it is, if it is not too long by many.
-    pub fn cut_everywhere(&mut self, bytes: Vec<u8>) -> Fed {
-        let every_place = std::mem::replace(&mut self.every_place, LAST_PLACE + 1);
-        let fed = self.cut(bytes);
-        self.every_place = every_place;
-        fed
+        Fed::new(bytes, cuttings, after).everywhere()
     }
 
     /// Two to nine cuts at any places, one of them now and then at an end or twice: there is an empty part.
@@ -193,16 +163,6 @@ impl Cutter {
         Cuts::At(places)
     }
 
-    /// The size of equal parts: one byte for some inputs that are not far too long.
-    fn size(&mut self, length: usize) -> usize {
-        let random = &mut self.random;
-        match length {
-            0..=4096 if random.once_in(8) => 1,
-            0..=4096 => random.between(2, 140),
-            _ => random.pick(&[256, 2047, 2048, 2049, 4096]),
-        }
-    }
-
     /// A part that comes after the finish.
     fn after(&mut self, bytes: &[u8]) -> Vec<u8> {
         let random = &mut self.random;
@@ -212,17 +172,6 @@ impl Cutter {
             10 | 11 => random_bytes(random),
             12..=14 => bytes[..bytes.len().min(64)].to_vec(),
             _ => vec![random.pick(&TELLING); MAX_BYTES + 1],
-        }
-    }
-
-    fn count(&mut self, cuttings: &[Cuts]) {
-        self.cuttings += cuttings.len();
-        for cuts in cuttings {
-            match cuts {
-                Cuts::InTwo(place) if *place <= LAST_PLACE => self.in_two[*place] += 1,
-                Cuts::Each(1) => self.into_bytes += 1,
-                _ => (),
-            }
         }
     }
 }
