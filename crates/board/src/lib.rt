@@ -27,7 +27,8 @@ ghost use Rattle.meaning.specs.Reading.{reading};
 ghost use Rattle.meaning.specs.SheetReading.{readSheet};
 ghost use Rattle.meaning.specs.Answers.{fillAnswer, joinAnswer, writeAnswer, tableAnswer, bufferAfter};
 ghost use Rattle.pieces.specs.Led.{closedOf, ledTo};
-ghost use Rattle.board.specs.Answers.{readAnswer, childAnswer, nameAnswer, sheetAnswer, madeAnswer, recordsAnswer};
+ghost use Rattle.answers.specs.Calls.{readAnswer, childAnswer, nameAnswer, sheetAnswer, madeAnswer};
+ghost use Rattle.board.specs.Answers.{recordsAnswer};
 
 // Judges an encoding: its length, and its depth as extra, or the refusal.
 #[no_mangle]

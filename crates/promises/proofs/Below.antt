@@ -41,7 +41,7 @@ use Rattle.editor.specs.Records.{recordsAnswer, recordsOutcome}
 use Rattle.answers.specs.declared.Answer.{Answer}
 use Rattle.answers.specs.Answers.{refused, readPut, childPut, namePut, sheetPut, madePut}
 use Rattle.board.proofs.Plain.{Parameters}
-use Rattle.board.proofs.Small.{exported, exported-child, exported-name, exported-sheet}
+use Rattle.answers.proofs.Small.{exported, exported-child, exported-name, exported-sheet}
 use Rattle.promises.specs.Told.{Answered, wrote, Makes}
 use Rattle.promises.proofs.Calls.{Lent, One, Two, Three, OnBytes, OnPart, Into, IntoOfTwo, IntoOfRecords, Read, ChildOf, NameOf, Check, Fill, Join, Write, WriteRecords, Tabled, BoardRead, BoardChild, BoardName, BoardSheet, BoardFill, BoardJoin, BoardWrite, BoardRecords, BoardTable}
 use Rattle.promises.proofs.Says.{MakesIn, read-says, child-says, name-says, check-says, fill-says, join-says, write-says, records-says, table-says}

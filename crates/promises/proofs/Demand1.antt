@@ -43,7 +43,8 @@ use Rattle.editor.specs.declared.Node.{Node}
 use Rattle.editor.specs.Records.{meant}
 use Rattle.answers.specs.declared.Answer.{Answer}
 use Rattle.answers.specs.Answers.{Fits, readPut, childPut, namePut, sheetPut, madePut}
-use Rattle.board.proofs.Small.{Given, exported, exported-child, exported-name, exported-sheet, made-fits, records-fit}
+use Rattle.answers.proofs.Small.{Given, exported, exported-child, exported-name, exported-sheet, made-fits}
+use Rattle.board.proofs.Small.{records-fit}
 use Rattle.promises.specs.Order.{readNumbers, PartRefuses, FillRefuses, JoinRefuses, WriteRefuses, RecordsRefuses, TableRefuses, CheckRefused}
 use Rattle.promises.specs.Told.{FrontOnly, Tells, Keeps}
 use Rattle.promises.proofs.Calls.{Lent, Two, Three, Into, IntoOfTwo, BoardRead, BoardChild, BoardName, BoardSheet, BoardFill, BoardJoin, BoardWrite, BoardRecords, BoardTable}

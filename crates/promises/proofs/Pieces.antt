@@ -43,8 +43,8 @@ use Rattle.pieces.proofs.Led.{part-can, finish-can}
 use Rattle.answers.specs.declared.Answer.{Answer}
 use Rattle.answers.specs.Answers.{answered, Fits, readPut}
 use Rattle.board.specs.declared.PiecesEnd.{PiecesEnd}
-use Rattle.board.specs.Answers.{readAnswer}
-use Rattle.board.proofs.Small.{exported}
+use Rattle.answers.specs.Calls.{readAnswer}
+use Rattle.answers.proofs.Small.{exported}
 use Rattle.board.proofs.shiulbart_pieces_start as start
 use Rattle.promises.specs.Order.{readNumbers}
 use Rattle.promises.specs.Told.{IsShape, Tells}

@@ -5,7 +5,7 @@ use native.Mathlib.Omega.{arith}
 use mathlib.Core.Path.{_∙_, ap}
 use Rattle.meaning.proofs.Window.{bytes-by-index}
 use Rattle.answers.specs.Answers.{childPut}
-use Rattle.board.proofs.Small.{exported-child}
+use Rattle.answers.proofs.Small.{exported-child}
 use Rattle.board.proofs.shiulbart_child.Statement.{statement}
 use Rattle.board.proofs.shiulbart_child.Tie as tie
 

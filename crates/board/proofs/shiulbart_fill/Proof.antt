@@ -5,7 +5,7 @@ use mathlib.Core.Path.{_∙_, ap}
 use Rattle.meaning.specs.Answers.{fillAnswer}
 use Rattle.meaning.proofs.Bounds.{fill-small}
 use Rattle.answers.specs.Answers.{madePut}
-use Rattle.board.proofs.Small.{made-fits}
+use Rattle.answers.proofs.Small.{made-fits}
 use Rattle.board.proofs.shiulbart_fill.Statement.{statement}
 use Rattle.board.proofs.shiulbart_fill.Tie as tie
 

@@ -5,7 +5,7 @@ use native.Mathlib.Omega.{arith}
 use mathlib.Core.Path.{_∙_, ap}
 use Rattle.meaning.proofs.Window.{bytes-by-index}
 use Rattle.answers.specs.Answers.{namePut}
-use Rattle.board.proofs.Small.{exported-name}
+use Rattle.answers.proofs.Small.{exported-name}
 use Rattle.board.proofs.shiulbart_name.Statement.{statement}
 use Rattle.board.proofs.shiulbart_name.Tie as tie
 

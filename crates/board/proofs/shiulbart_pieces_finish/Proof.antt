@@ -3,7 +3,8 @@
 use borrow.Author.Needs.{needs}
 use mathlib.Core.Path.{_∙_, ap}
 use Rattle.answers.specs.Answers.{readPut}
-use Rattle.board.proofs.Small.{exported, judged-fits}
+use Rattle.answers.proofs.Small.{exported}
+use Rattle.board.proofs.Small.{judged-fits}
 use Rattle.board.proofs.shiulbart_pieces_finish.Statement.{statement}
 use Rattle.board.proofs.shiulbart_pieces_finish.Tie as tie
 

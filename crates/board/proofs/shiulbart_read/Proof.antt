@@ -5,7 +5,7 @@ use native.Mathlib.Omega.{arith}
 use mathlib.Core.Path.{_∙_, ap}
 use Rattle.meaning.proofs.Window.{bytes-by-index}
 use Rattle.answers.specs.Answers.{readPut}
-use Rattle.board.proofs.Small.{exported}
+use Rattle.answers.proofs.Small.{exported}
 use Rattle.board.proofs.shiulbart_read.Statement.{statement}
 use Rattle.board.proofs.shiulbart_read.Tie as tie
 

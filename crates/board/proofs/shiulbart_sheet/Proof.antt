@@ -5,7 +5,7 @@ use native.Mathlib.Omega.{arith}
 use mathlib.Core.Path.{_∙_, ap}
 use Rattle.meaning.proofs.Window.{bytes-by-index}
 use Rattle.answers.specs.Answers.{sheetPut}
-use Rattle.board.proofs.Small.{exported-sheet}
+use Rattle.answers.proofs.Small.{exported-sheet}
 use Rattle.board.proofs.shiulbart_sheet.Statement.{statement}
 use Rattle.board.proofs.shiulbart_sheet.Tie as tie
 

@@ -7,7 +7,7 @@ use Rattle.meaning.specs.Answers.{tableAnswer}
 use Rattle.meaning.proofs.Window.{bytes-by-index}
 use Rattle.meaning.proofs.TableAnswers.{table-small}
 use Rattle.answers.specs.Answers.{madePut}
-use Rattle.board.proofs.Small.{made-fits}
+use Rattle.answers.proofs.Small.{made-fits}
 use Rattle.board.proofs.shiulbart_table.Statement.{statement}
 use Rattle.board.proofs.shiulbart_table.Tie as tie
 
