@@ -33,12 +33,13 @@ use Rattle.byte_steps.specs.declared.Took.{Took}
 use Rattle.turns.specs.declared.moves.Act.{Act}
 use Rattle.turns.specs.declared.moves.Act.the-variants.{Rest, Stay, Push, Pop}
 use Rattle.turns.specs.declared.moves.Moved.{Moved}
-use Rattle.turns.specs.declared.items.Item.the-variants.{Whole}
-use Rattle.turns.specs.declared.items.Run as Taken
+use Rattle.items.specs.declared.Item.the-variants.{Whole}
+use Rattle.items.specs.declared.Run as Taken
 use Rattle.byte_steps.specs.Automaton.{taken, entered, step, fed, run, Run, afterChild, withDue, textDone, settle}
 use Rattle.turns.specs.Moves.{resting, sized, betweenMoved, openingMoved}
-use Rattle.turns.specs.Leads.{bare, named, itemMode, idle, countedTo, turned, stayed, rested, waited, onward, Lighter, Leads, WindowEnd, ShapeFed, RunFed}
-use Rattle.turns.proofs.Inside.{letters-on, letters-out}
+use Rattle.items.specs.Fed.{bare, named, itemMode, WindowEnd, ShapeFed, RunFed}
+use Rattle.turns.specs.Leads.{idle, countedTo, turned, stayed, rested, waited, onward, Lighter, Leads}
+use Rattle.items.proofs.Inside.{letters-on, letters-out}
 use Rattle.turns.proofs.Moving.{enter-rest, Moves, Lights, Light, between-moves, opening-moves, between-light, opening-light, weight-most, goOn, fair-taken, fed-over, done-ok}
 
 step-few : (stack : List Level) (top : Level) (m : Mode) (count whole deepest b : ℕ) (t : Took) → count < maxBytes → t ≡ taken m top (length stack) deepest count b

@@ -1,46 +1,20 @@
--- NOT TO BE BELIEVED. What a turn of the loop over a part's bytes leads to, and what lies whole in them.
-use Prim.Native.Nat.{ℕ, _+_, _*_, _-_, _≤_, _<_, max}
+-- NOT TO BE BELIEVED. What a turn of the loop over a part's bytes leads to.
+use Prim.Native.Nat.{ℕ, _+_, _*_, _-_, _≤_, _<_}
 use mathlib.Core.Path.{_≡_}
 use mathlib.Core.Bool.{Bool, true, false}
 use mathlib.Core.List.{List, [], _∷_}
-use lib.ListN.{length, getD, drop}
+use lib.ListN.{length, drop}
 use lib.Dec.{ltb, leb}
 use Rattle.meaning.specs.Rules.{_⇒_∣_}
 use Rattle.meaning.specs.Limits.{maxBytes, maxLevels}
-use Rattle.byte_steps.specs.declared.modes.Items.{Items}
-use Rattle.byte_steps.specs.declared.modes.Items.the-variants.{Plain, Bare, Fields, Texts}
 use Rattle.byte_steps.specs.declared.modes.Level.{Level}
 use Rattle.byte_steps.specs.declared.modes.Mode.{Mode}
 use Rattle.byte_steps.specs.declared.modes.Mode.the-variants.{Head, SizeLow, SizeHigh, Opening, Count, CountMore, Length, LengthMore, Letters, BlankLow, BlankHigh, Between, Done, Faulty}
 use Rattle.turns.specs.declared.moves.Act.{Act}
 use Rattle.turns.specs.declared.moves.Act.the-variants.{Rest, Stay, Push, Pop}
-use Rattle.turns.specs.declared.items.Item.{Item}
-use Rattle.turns.specs.declared.items.Item.the-variants.{Whole, Cut}
-use Rattle.turns.specs.declared.items.Run as Taken
 use Rattle.turns.specs.declared.Turned.{Turned}
-use Rattle.byte_steps.specs.Automaton.{level, afterChild, run, Run, settle, entered, fed}
+use Rattle.byte_steps.specs.Automaton.{Run, entered, fed}
 use Rattle.turns.specs.Moves.{resting, sized}
-
--- the items are shapes, in a list without a short form
-abbrev pub bare : Items → Bool
-bare Plain = false
-bare Bare = true
-bare Fields = false
-bare Texts = false
-
--- the items have texts
-abbrev pub named : Items → Bool
-named Plain = false
-named Bare = false
-named Fields = true
-named Texts = true
-
--- the mode in which an item is due
-abbrev pub itemMode : Items → Mode
-itemMode Plain = Head
-itemMode Bare = Head
-itemMode Fields = Length
-itemMode Texts = Length
 
 -- nothing is read any more, and bytes are counted only
 abbrev pub idle : Mode → Bool
@@ -130,36 +104,3 @@ pub record Leads (s : List ℕ) (i : ℕ) (m : Mode) (top : Level) (n count whol
   pub same : (stack : List Level) → length stack ≡ n → fed (entered m stack top count whole deepest) (drop i s) ≡ fed (onward t stack top (t .act)) (drop (t .i) s)
   pub within : t .i ≤ length s
   pub lighter : Lighter s i m n t (t .act)
-
--- the end of a window from i on that lies in the part, in the payload in hand and in the longest input
-pub record WindowEnd (size i stop count end : ℕ) : Type 0 where
-  pub from : i ≤ end
-  pub within : end ≤ size
-  pub inside : i < end → count + (end - i) ≤ stop
-  pub few : count + (end - i) ≤ maxBytes
-
--- a shape that lies whole in the window that ends at end: fed with its bytes, the automaton is after it
-abbrev pub ShapeFed : List ℕ → ℕ → ℕ → ℕ → ℕ → Item → Type 0
-ShapeFed s end at n deepest (Cut fault) = Unit {0}
-ShapeFed s end at n deepest (Whole next deep) =
-    (at < next) × (next ≤ end)
-    × ((l : Level) (ls : List Level) (top : Level) (count whole : ℕ) → length (l ∷ ls) ≡ n → count + (end - at) ≤ top .stop → count + (end - at) ≤ maxBytes
-    → fed (run (l ∷ ls) top Head count whole deepest) (drop at s) ≡ fed (settle (l ∷ ls) (afterChild top (getD s at 0)) (count + (next - at)) whole deep) (drop next s))
-
--- the same of an item of a list that has no short form
-abbrev pub ItemFed : Items → List ℕ → ℕ → ℕ → ℕ → ℕ → Item → Type 0
-ItemFed items s end at n deepest (Cut fault) = Unit {0}
-ItemFed items s end at n deepest (Whole next deep) =
-    (at < next) × (next ≤ end)
-    × ((l : Level) (ls : List Level) (from stop due count whole : ℕ) → length (l ∷ ls) ≡ n → count + (end - at) ≤ stop → count + (end - at) ≤ maxBytes
-    → fed (run (l ∷ ls) (level from stop due items) (itemMode items) count whole deepest) (drop at s)
-    ≡ fed (settle (l ∷ ls) (level from stop due items) (count + (next - at)) whole deep) (drop next s))
-
--- items taken one after the other from i on, each followed by another
-pub record RunFed (items : Items) (s : List ℕ) (end at n due deepest : ℕ) (r : Taken.Run) : Type 0 where
-  pub from : at ≤ r .i
-  pub inside : r .i ≤ max at end
-  pub fewer : r .due ≤ due
-  pub same : (l : Level) (ls : List Level) (from stop count whole : ℕ) → length (l ∷ ls) ≡ n → count + (end - at) ≤ stop → count + (end - at) ≤ maxBytes
-      → fed (run (l ∷ ls) (level from stop due items) (itemMode items) count whole deepest) (drop at s)
-      ≡ fed (run (l ∷ ls) (level from stop (r .due) items) (itemMode items) (count + (r .i - at)) whole (r .deepest)) (drop (r .i) s)

@@ -1,5 +1,4 @@
 // A turn of the loop over a part's bytes: some of them are taken, or something is done without a byte. A turn goes by the mode once.
-pub mod items;
 pub mod moves;
 
 use byte_steps::Took;

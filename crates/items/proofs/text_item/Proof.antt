@@ -1,11 +1,11 @@
--- `turns::items::text_item` meets its contract.
+-- `items::text_item` meets its contract.
 -- Assumes nothing.
 use mathlib.Core.Path.{sym, _∙_}
 use native.Mathlib.Omega.{arith}
 use borrow.Author.Needs.{needs}
-use Rattle.turns.proofs.Whole.{text-whole}
-use Rattle.turns.proofs.items.text_item.Statement.{statement}
-use Rattle.turns.proofs.items.text_item.Tie as tie
+use Rattle.items.proofs.Whole.{text-whole}
+use Rattle.items.proofs.text_item.Statement.{statement}
+use Rattle.items.proofs.text_item.Tie as tie
 
 returns-2 : tie.Need-returns-2
 returns-2 c =

@@ -1,11 +1,11 @@
--- `turns::items::items_run` meets its contract.
+-- `items::items_run` meets its contract.
 -- Assumes nothing.
 use native.Mathlib.Omega.{arith}
 use borrow.Author.Needs.{needs}
-use Rattle.turns.specs.Leads.{RunFed}
-use Rattle.turns.proofs.Whole.{run-none, run-fault, run-more}
-use Rattle.turns.proofs.items.items_run.Statement.{statement}
-use Rattle.turns.proofs.items.items_run.Tie as tie
+use Rattle.items.specs.Fed.{RunFed}
+use Rattle.items.proofs.Whole.{run-none, run-fault, run-more}
+use Rattle.items.proofs.items_run.Statement.{statement}
+use Rattle.items.proofs.items_run.Tie as tie
 
 abbrev Inv-loop : tie.InvT-loop
 Inv-loop s end from items n due deepest fault run₀ run = RunFed items s end from n due deepest run

@@ -39,7 +39,7 @@ use Rattle.byte_steps.specs.declared.modes.Mode.{Mode}
 use Rattle.byte_steps.specs.declared.modes.Mode.the-variants as Now
 use Rattle.byte_steps.specs.declared.Took.{Took}
 use Rattle.byte_steps.specs.Automaton.{taken, charTaken, textTaken, textDue, lebFirst, lebSecond, lengthTaken, lengthMore, countTaken, countMore, more, plain, unplain, level, withDue, itemDue, shapeDue, lengthDue, countDue, opened, firstTaken, sizeTaken, blankTaken, noPrimitive, afterChild, textDone, settle, entered, step, fed, run, Run}
-use Rattle.turns.proofs.Taking.{first-tidy, bound, bound-none, char-more, first-is, onward, well-first, Wide, single, double, leb-bytes, leb-spans, Worded, text-worded, went, read, long-bare, Met, byte, payload, shape-met, shape-spans, text-spans, list-counted}
+use Rattle.items.proofs.Taking.{first-tidy, bound, bound-none, char-more, first-is, onward, well-first, Wide, single, double, leb-bytes, leb-spans, Worded, text-worded, went, read, long-bare, Met, byte, payload, shape-met, shape-spans, text-spans, list-counted}
 use Rattle.byte_steps.proofs.Meant.{kindOf, prims}
 use Rattle.byte_steps.proofs.Ends.{prims-none}
 

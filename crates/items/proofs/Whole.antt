@@ -20,13 +20,13 @@ use Rattle.reader.specs.Walk.{came, byFirst, shapeWith, walkShape, depths}
 use Rattle.byte_steps.specs.declared.modes.Items.{Items}
 use Rattle.byte_steps.specs.declared.modes.Items.the-variants.{Plain, Bare, Fields, Texts}
 use Rattle.byte_steps.specs.declared.modes.Level.{Level}
-use Rattle.turns.specs.declared.items.Item.{Item}
-use Rattle.turns.specs.declared.items.Item.the-variants.{Whole, Cut}
-use Rattle.turns.specs.declared.items.Run as Taken
+use Rattle.items.specs.declared.Item.{Item}
+use Rattle.items.specs.declared.Item.the-variants.{Whole, Cut}
+use Rattle.items.specs.declared.Run as Taken
 use Rattle.byte_steps.specs.Automaton.{level, afterChild, unplain, shapeDue, lengthDue, itemDue, settle, entered, fed, run}
-use Rattle.turns.specs.Leads.{itemMode, ShapeFed, ItemFed, RunFed}
-use Rattle.turns.proofs.Taking.{text-spans, shape-spans}
-use Rattle.turns.proofs.Inside.{text-fed, shape-fed}
+use Rattle.items.specs.Fed.{itemMode, ShapeFed, ItemFed, RunFed}
+use Rattle.items.proofs.Taking.{text-spans, shape-spans}
+use Rattle.items.proofs.Inside.{text-fed, shape-fed}
 
 -- a shape of one byte is walked over
 pub short-walk : (left : ℕ) (s : List ℕ) (end at levels : ℕ) → at < end → firstSaid (classOf (getD s at 0)) ≡ By.Short levels → levels ≤ left → walkShape depths left s end at ≡ came (at + 1) levels

@@ -1,9 +1,9 @@
--- `turns::items::item_at` meets its contract.
+-- `items::item_at` meets its contract.
 -- Assumes nothing.
 use borrow.Author.Needs.{needs}
-use Rattle.turns.proofs.Whole.{bare-whole}
-use Rattle.turns.proofs.items.item_at.Statement.{statement}
-use Rattle.turns.proofs.items.item_at.Tie as tie
+use Rattle.items.proofs.Whole.{bare-whole}
+use Rattle.items.proofs.item_at.Statement.{statement}
+use Rattle.items.proofs.item_at.Tie as tie
 
 returns-2 : tie.Need-returns-2
 returns-2 c =

@@ -9,7 +9,7 @@ use payloads::first::First;
 use reader::Walked;
 ghost use mathlib.Core.Path.{_≡_};
 ghost use Prim.Native.Nat.{_<_, _≤_};
-ghost use Rattle.turns.specs.Leads.{ItemFed, RunFed, ShapeFed, WindowEnd, bare, named};
+ghost use Rattle.items.specs.Fed.{ItemFed, RunFed, ShapeFed, WindowEnd, bare, named};
 ghost use Rattle.meaning.specs.Limits.{maxBytes, maxLevels};
 ghost use lib.ListN.{length};
 ghost use Rattle.byte_steps.specs.declared.modes.Items.the-variants.{Fields, Texts};

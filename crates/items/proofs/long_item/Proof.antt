@@ -1,11 +1,11 @@
--- `turns::items::long_item` meets its contract.
+-- `items::long_item` meets its contract.
 -- Assumes nothing.
 use mathlib.Core.Path.{sym}
 use native.Mathlib.Omega.{arith}
 use borrow.Author.Needs.{needs}
-use Rattle.turns.proofs.Whole.{shape-whole}
-use Rattle.turns.proofs.items.long_item.Statement.{statement}
-use Rattle.turns.proofs.items.long_item.Tie as tie
+use Rattle.items.proofs.Whole.{shape-whole}
+use Rattle.items.proofs.long_item.Statement.{statement}
+use Rattle.items.proofs.long_item.Tie as tie
 
 cast-larger : tie.Need-cast-larger
 cast-larger c = let h = rw (c .before .next .given .1) at (c .before .before .before .shape-at .ensures .1) in omega arith

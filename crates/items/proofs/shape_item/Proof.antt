@@ -1,4 +1,4 @@
--- `turns::items::shape_item` meets its contract.
+-- `items::shape_item` meets its contract.
 -- Assumes nothing.
 use mathlib.Core.Path.{sym, _∙_}
 use Prim.Native.Nat.{_-_}
@@ -8,9 +8,9 @@ use borrow.Author.Needs.{needs}
 use Rattle.meaning.specs.FirstByte.{classOf}
 use Rattle.meaning.specs.Limits.{maxLevels}
 use Rattle.byte_steps.proofs.Firsts.{short-small}
-use Rattle.turns.proofs.Whole.{short-walk, shape-whole}
-use Rattle.turns.proofs.items.shape_item.Statement.{statement}
-use Rattle.turns.proofs.items.shape_item.Tie as tie
+use Rattle.items.proofs.Whole.{short-walk, shape-whole}
+use Rattle.items.proofs.shape_item.Statement.{statement}
+use Rattle.items.proofs.shape_item.Tie as tie
 
 cast-deep : tie.Need-cast-deep
 cast-deep c = let a = c .before .before .before .before .before .before .before in let h = short-small (classOf (getD (a .args .s .now) (a .args .at) 0)) _ (sym (c .before .before .before .first-of .ensures) ∙ c .before .levels .given .1) in omega arith

@@ -1,11 +1,11 @@
--- `turns::items::field_item` meets its contract.
+-- `items::field_item` meets its contract.
 -- Assumes nothing.
 use mathlib.Core.Path.{sym, _∙_}
 use native.Mathlib.Omega.{arith}
 use borrow.Author.Needs.{needs}
-use Rattle.turns.proofs.Whole.{field-whole}
-use Rattle.turns.proofs.items.field_item.Statement.{statement}
-use Rattle.turns.proofs.items.field_item.Tie as tie
+use Rattle.items.proofs.Whole.{field-whole}
+use Rattle.items.proofs.field_item.Statement.{statement}
+use Rattle.items.proofs.field_item.Tie as tie
 
 returns-2 : tie.Need-returns-2
 returns-2 c =
