@@ -87,65 +87,7 @@ fn verdict(mode: Mode, count: u16, whole: u16, deepest: u16) -> Judgement
             number: number as usize,
             place: place as usize,
         },
-        Mode::Head => Judgement::Refused {
-            number: CUT_SHORT,
-            place: 0,
-        },
-        Mode::SizeLow { kind: _, at: _ } => Judgement::Refused {
-            number: CUT_SHORT,
-            place: 0,
-        },
-        Mode::SizeHigh {
-            kind: _,
-            at: _,
-            low: _,
-        } => Judgement::Refused {
-            number: CUT_SHORT,
-            place: 0,
-        },
-        Mode::Opening {
-            kind: _,
-            at: _,
-            stop: _,
-        } => Judgement::Refused {
-            number: CUT_SHORT,
-            place: 0,
-        },
-        Mode::Count => Judgement::Refused {
-            number: CUT_SHORT,
-            place: 0,
-        },
-        Mode::CountMore { at: _, low: _ } => Judgement::Refused {
-            number: CUT_SHORT,
-            place: 0,
-        },
-        Mode::Length => Judgement::Refused {
-            number: CUT_SHORT,
-            place: 0,
-        },
-        Mode::LengthMore { at: _, low: _ } => Judgement::Refused {
-            number: CUT_SHORT,
-            place: 0,
-        },
-        Mode::Letters {
-            from: _,
-            left: _,
-            more: _,
-            low: _,
-            high: _,
-        } => Judgement::Refused {
-            number: CUT_SHORT,
-            place: 0,
-        },
-        Mode::BlankLow { at: _ } => Judgement::Refused {
-            number: CUT_SHORT,
-            place: 0,
-        },
-        Mode::BlankHigh { at: _, low: _ } => Judgement::Refused {
-            number: CUT_SHORT,
-            place: 0,
-        },
-        Mode::Between => Judgement::Refused {
+        _ => Judgement::Refused {
             number: CUT_SHORT,
             place: 0,
         },

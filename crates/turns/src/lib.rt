@@ -510,31 +510,7 @@ fn last_turn(
             i,
             fault,
         ),
-        Mode::Head => waits(s, i, mode, top, count, whole, deepest),
-        Mode::SizeLow { kind: _, at: _ } => waits(s, i, mode, top, count, whole, deepest),
-        Mode::SizeHigh {
-            kind: _,
-            at: _,
-            low: _,
-        } => waits(s, i, mode, top, count, whole, deepest),
-        Mode::Count => waits(s, i, mode, top, count, whole, deepest),
-        Mode::CountMore { at: _, low: _ } => waits(s, i, mode, top, count, whole, deepest),
-        Mode::Length => waits(s, i, mode, top, count, whole, deepest),
-        Mode::LengthMore { at: _, low: _ } => waits(s, i, mode, top, count, whole, deepest),
-        Mode::Letters {
-            from: _,
-            left: _,
-            more: _,
-            low: _,
-            high: _,
-        } => waits(s, i, mode, top, count, whole, deepest),
-        Mode::BlankLow { at: _ } => waits(s, i, mode, top, count, whole, deepest),
-        Mode::BlankHigh { at: _, low: _ } => waits(s, i, mode, top, count, whole, deepest),
-        Mode::Done => waits(s, i, mode, top, count, whole, deepest),
-        Mode::Faulty {
-            number: _,
-            place: _,
-        } => waits(s, i, mode, top, count, whole, deepest),
+        _ => waits(s, i, mode, top, count, whole, deepest),
     }
 }
 

@@ -42,7 +42,6 @@ pub fn sized(mode: Mode) -> u16
     ensures small { λ r. ⌜ r ≤ 1 ⌝ }
 {
     match mode {
-        Mode::Head => 0,
         Mode::SizeLow { kind: _, at: _ } => 1,
         Mode::SizeHigh {
             kind: _,
@@ -54,25 +53,7 @@ pub fn sized(mode: Mode) -> u16
             at: _,
             stop: _,
         } => 1,
-        Mode::Count => 0,
-        Mode::CountMore { at: _, low: _ } => 0,
-        Mode::Length => 0,
-        Mode::LengthMore { at: _, low: _ } => 0,
-        Mode::Letters {
-            from: _,
-            left: _,
-            more: _,
-            low: _,
-            high: _,
-        } => 0,
-        Mode::BlankLow { at: _ } => 0,
-        Mode::BlankHigh { at: _, low: _ } => 0,
-        Mode::Between => 0,
-        Mode::Done => 0,
-        Mode::Faulty {
-            number: _,
-            place: _,
-        } => 0,
+        _ => 0,
     }
 }
 

@@ -1,8 +1,18 @@
 -- `pieces::verdict` meets its contract.
 -- Assumes nothing.
+use Prim.Native.Nat.{ℕ}
+use mathlib.Core.Path.{_≡_, refl}
+use mathlib.Core.List.{List, [], _∷_}
 use borrow.Author.Needs.{needs}
 use borrow.Author.Tests.{lt-ltb, le-ltb}
+use denote.Enum.Declared.{tagOf}
+use types.Run.{OneOf, miss}
+use Rattle.meaning.specs.Refusals.{cutShort}
+use Rattle.reader.specs.Walk.{stopped}
+use Rattle.byte_steps.specs.declared.modes.Mode.{Mode}
+use Rattle.byte_steps.specs.declared.modes.Mode.the-variants.{Head, SizeLow, SizeHigh, Opening, Count, CountMore, Length, LengthMore, Letters, BlankLow, BlankHigh, Between, Done, Faulty}
 use Rattle.byte_steps.specs.Automaton.{verdict}
+use Rattle.byte_steps.proofs.modes.Mode.{the-type}
 use Rattle.pieces.proofs.verdict.Statement.{statement}
 use Rattle.pieces.proofs.verdict.Tie as tie
 
@@ -18,86 +28,30 @@ returns-3 : tie.Need-returns-3
 unfolding verdict
 returns-3 c = rw (c .before .mode .given .1)
 
+-- the numbers of the variants that the last arm takes
+abbrev others : List ℕ
+others = 0 ∷ 1 ∷ 2 ∷ 3 ∷ 4 ∷ 5 ∷ 6 ∷ 7 ∷ 8 ∷ 9 ∷ 10 ∷ 11 ∷ []
+
+-- in each of these modes a byte is missing
+missing : (m : Mode) (count whole deepest : ℕ) → OneOf others (tagOf the-type m) → verdict m count whole deepest ≡ stopped cutShort 0
+unfolding verdict
+missing Head count whole deepest k = refl
+missing (SizeLow kind from) count whole deepest k = refl
+missing (SizeHigh kind from low) count whole deepest k = refl
+missing (Opening kind from stop) count whole deepest k = refl
+missing Count count whole deepest k = refl
+missing (CountMore from low) count whole deepest k = refl
+missing Length count whole deepest k = refl
+missing (LengthMore from low) count whole deepest k = refl
+missing (Letters from left m low high) count whole deepest k = refl
+missing (BlankLow from) count whole deepest k = refl
+missing (BlankHigh from low) count whole deepest k = refl
+missing Between count whole deepest k = refl
+missing Done count whole deepest k = absurd (miss others 12 (tt {0}) k)
+missing (Faulty number place) count whole deepest k = absurd (miss others 13 (tt {0}) k)
+
 returns-4 : tie.Need-returns-4
-unfolding verdict
-returns-4 c = rw (c .enum-told2 .given .1)
-
-returns-5 : tie.Need-returns-5
-unfolding verdict
-returns-5 c = rw (c .enum-told3 .given .1)
-
-returns-6 : tie.Need-returns-6
-unfolding verdict
-returns-6 c = rw (c .enum-told4 .given .1)
-
-returns-7 : tie.Need-returns-7
-unfolding verdict
-returns-7 c = rw (c .enum-told5 .given .1)
-
-returns-8 : tie.Need-returns-8
-unfolding verdict
-returns-8 c = rw (c .enum-told6 .given .1)
-
-returns-9 : tie.Need-returns-9
-unfolding verdict
-returns-9 c = rw (c .enum-told7 .given .1)
-
-returns-10 : tie.Need-returns-10
-unfolding verdict
-returns-10 c = rw (c .enum-told8 .given .1)
-
-returns-11 : tie.Need-returns-11
-unfolding verdict
-returns-11 c = rw (c .enum-told9 .given .1)
-
-returns-12 : tie.Need-returns-12
-unfolding verdict
-returns-12 c = rw (c .enum-told10 .given .1)
-
-returns-13 : tie.Need-returns-13
-unfolding verdict
-returns-13 c = rw (c .enum-told11 .given .1)
-
-returns-14 : tie.Need-returns-14
-unfolding verdict
-returns-14 c = rw (c .enum-told12 .given .1)
-
-returns-15 : tie.Need-returns-15
-unfolding verdict
-returns-15 c = rw (c .enum-told13 .given .1)
+returns-4 c = let a = c .before .args in rw (missing (a .mode) (a .count) (a .whole) (a .deepest) (c .match .keys3))
 
 pub verdict-spec : {M : Type 1} → statement M
-verdict-spec =
-    tie.close
-    (tie.spec
-    (λ c. search needs)
-    returns
-    (λ c. search needs)
-    (λ c. search needs)
-    (λ c. search needs)
-    (λ c. search needs)
-    (λ c. search needs)
-    (λ c. search needs)
-    (λ c. search needs)
-    (λ c. search needs)
-    (λ c. search needs)
-    (λ c. search needs)
-    (λ c. search needs)
-    (λ c. search needs)
-    (λ c. search needs)
-    (λ c. search needs)
-    (λ c. search needs)
-    returns-2
-    returns-3
-    returns-4
-    returns-5
-    returns-6
-    returns-7
-    returns-8
-    returns-9
-    returns-10
-    returns-11
-    returns-12
-    returns-13
-    returns-14
-    returns-15)
+verdict-spec = tie.close (tie.spec (λ c. search needs) returns (λ c. search needs) (λ c. search needs) (λ c. search needs) returns-2 returns-3 returns-4)
