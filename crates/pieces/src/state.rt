@@ -5,7 +5,7 @@ use byte_steps::modes::Mode;
 use leaves::limits::MAX_LEVELS;
 use payloads::first::Kind;
 ghost use mathlib.Core.Path.{_≡_};
-ghost use Rattle.pieces.specs.Kept.{entryOf, itemsNumber, itemsOf, kindIn, kindNumber, levelIn, modeHigh, modeIn, noEntry, wordOf};
+ghost use Rattle.pieces.specs.Kept.{entryOf, itemsNumber, itemsOf, kindIn, kindNumber, levelIn, modeHigh, modeIn, noEntry, wordOf, wordWith};
 
 // A level as numbers, so that a host can keep it.
 #[repr(C)]
@@ -173,79 +173,37 @@ fn kind_of(number: u16) -> Kind
     Kind::Variable
 }
 
-// What the next byte is, as numbers, and back.
+// The numbers that most modes have.
+fn numbered(code: u8, a: u16, b: u16, low: u8) -> Word
+    ensures { λ r. ⌜ r ≡ wordWith code a b 0 low 0 ⌝ }
+{
+    Word {
+        a,
+        b,
+        code,
+        more: 0,
+        low,
+        high: 0,
+    }
+}
+
+// What the next byte is, as numbers, and back. Where a part ends no payload is about to open, and no item is just read.
 pub fn word_of(mode: Mode) -> Word
     ensures { λ r. ⌜ r ≡ wordOf mode ⌝ }
 {
     match mode {
-        Mode::Head => Word {
-            code: HEAD,
-            a: 0,
-            b: 0,
-            more: 0,
-            low: 0,
-            high: 0,
-        },
-        Mode::SizeLow { kind, at } => Word {
-            code: SIZE_LOW,
-            a: at,
-            b: kind_number(kind),
-            more: 0,
-            low: 0,
-            high: 0,
-        },
-        Mode::SizeHigh { kind, at, low } => Word {
-            code: SIZE_HIGH,
-            a: at,
-            b: kind_number(kind),
-            more: 0,
-            low,
-            high: 0,
-        },
+        Mode::Head => numbered(HEAD, 0, 0, 0),
+        Mode::SizeLow { kind, at } => numbered(SIZE_LOW, at, kind_number(kind), 0),
+        Mode::SizeHigh { kind, at, low } => numbered(SIZE_HIGH, at, kind_number(kind), low),
         Mode::Opening {
             kind: _,
             at: _,
             stop: _,
-        } => Word {
-            code: DONE,
-            a: 0,
-            b: 0,
-            more: 0,
-            low: 0,
-            high: 0,
-        },
-        Mode::Count => Word {
-            code: COUNT,
-            a: 0,
-            b: 0,
-            more: 0,
-            low: 0,
-            high: 0,
-        },
-        Mode::CountMore { at, low } => Word {
-            code: COUNT_MORE,
-            a: at,
-            b: 0,
-            more: 0,
-            low,
-            high: 0,
-        },
-        Mode::Length => Word {
-            code: LENGTH,
-            a: 0,
-            b: 0,
-            more: 0,
-            low: 0,
-            high: 0,
-        },
-        Mode::LengthMore { at, low } => Word {
-            code: LENGTH_MORE,
-            a: at,
-            b: 0,
-            more: 0,
-            low,
-            high: 0,
-        },
+        } => numbered(DONE, 0, 0, 0),
+        Mode::Count => numbered(COUNT, 0, 0, 0),
+        Mode::CountMore { at, low } => numbered(COUNT_MORE, at, 0, low),
+        Mode::Length => numbered(LENGTH, 0, 0, 0),
+        Mode::LengthMore { at, low } => numbered(LENGTH_MORE, at, 0, low),
         Mode::Letters {
             from,
             left,
@@ -260,46 +218,11 @@ pub fn word_of(mode: Mode) -> Word
             low,
             high,
         },
-        Mode::BlankLow { at } => Word {
-            code: BLANK_LOW,
-            a: at,
-            b: 0,
-            more: 0,
-            low: 0,
-            high: 0,
-        },
-        Mode::BlankHigh { at, low } => Word {
-            code: BLANK_HIGH,
-            a: at,
-            b: 0,
-            more: 0,
-            low,
-            high: 0,
-        },
-        Mode::Between => Word {
-            code: DONE,
-            a: 0,
-            b: 0,
-            more: 0,
-            low: 0,
-            high: 0,
-        },
-        Mode::Done => Word {
-            code: DONE,
-            a: 0,
-            b: 0,
-            more: 0,
-            low: 0,
-            high: 0,
-        },
-        Mode::Faulty { number, place } => Word {
-            code: FAULTY,
-            a: number,
-            b: place,
-            more: 0,
-            low: 0,
-            high: 0,
-        },
+        Mode::BlankLow { at } => numbered(BLANK_LOW, at, 0, 0),
+        Mode::BlankHigh { at, low } => numbered(BLANK_HIGH, at, 0, low),
+        Mode::Between => numbered(DONE, 0, 0, 0),
+        Mode::Done => numbered(DONE, 0, 0, 0),
+        Mode::Faulty { number, place } => numbered(FAULTY, number, place, 0),
     }
 }
 
