@@ -1,5 +1,5 @@
 -- What lies whole in a window of a part, as the code takes it.
---     short-walk, shape-whole                   a shape: of one byte, and any
+--     short-whole, shape-whole                  a shape: of one byte, and any
 --     bare-whole, field-whole, text-whole       an item of a list
 --     run-none, run-fault, run-more             items one after the other
 -- Assumes nothing.
@@ -29,7 +29,7 @@ use Rattle.items.proofs.Taking.{text-spans, shape-spans}
 use Rattle.items.proofs.Inside.{text-fed, shape-fed}
 
 -- a shape of one byte is walked over
-pub short-walk : (left : ℕ) (s : List ℕ) (end at levels : ℕ) → at < end → firstSaid (classOf (getD s at 0)) ≡ By.Short levels → levels ≤ left → walkShape depths left s end at ≡ came (at + 1) levels
+short-walk : (left : ℕ) (s : List ℕ) (end at levels : ℕ) → at < end → firstSaid (classOf (getD s at 0)) ≡ By.Short levels → levels ≤ left → walkShape depths left s end at ≡ came (at + 1) levels
 unfolding walkShape shapeWith byFirst
 short-walk zero s end at levels h f k = rw (lt-leb end at h, f, le-ltb 0 levels k)
 short-walk (suc left) s end at levels h f k = rw (lt-leb end at h, f, le-ltb (suc left) levels k)
@@ -43,6 +43,9 @@ shape-whole s end at n deepest next d w k b =
           shape-fed (maxLevels - n) s end at next d l ls top count whole deepest w (omega (arith, e)) b h j
           ∙ ap (λ q. fed (settle (l ∷ ls) (afterChild top (getD s at 0)) (count + (next - at)) whole (max deepest (q + d))) (drop next s)) e,
     )
+
+pub short-whole : (s : List ℕ) (end at n deepest levels : ℕ) → firstSaid (classOf (getD s at 0)) ≡ By.Short levels → at < end → n + levels ≤ maxLevels → end ≤ length s → ShapeFed s end at n deepest (Whole (at + 1) (max deepest (n + levels)))
+short-whole s end at n deepest levels f h k b = shape-whole s end at n deepest (at + 1) levels (short-walk (maxLevels - n) s end at levels h f (omega arith)) (omega arith) b
 
 -- a list that has no short form is the same after an item
 after-same : (at stop due b : ℕ) (items : Items) → unplain items ≡ items → afterChild (level at stop due items) b ≡ level at stop due items

@@ -12,7 +12,7 @@ ghost use Prim.Native.Nat.{_<_, _≤_};
 ghost use Rattle.items.specs.Fed.{ItemFed, RunFed, ShapeFed, WindowEnd, bare, named};
 ghost use Rattle.meaning.specs.Limits.{maxBytes, maxLevels};
 ghost use lib.ListN.{length};
-ghost use Rattle.byte_steps.specs.declared.modes.Items.the-variants.{Fields, Texts};
+ghost use Rattle.byte_steps.specs.declared.modes.Items.the-variants.{Bare, Fields, Texts};
 
 // Whether the items are shapes, in a list without a short form.
 pub fn bare(items: Items) -> bool
@@ -127,6 +127,73 @@ pub struct Run {
     pub fault: usize,
 }
 
+// The shapes of one byte at the front of a list of shapes, each with another byte after it in the window. None has more than two levels, so where two
+// are left none is too deep, and the loop does not ask how deep each is. Nearer to the last level none is taken here.
+fn shorts_run(
+    s: &[u8],
+    end: usize,
+    from: usize,
+    n: u16,
+    due: u16,
+    deepest: u16,
+    fault: usize,
+) -> Run
+    requires { ⌜ (end ≤ length (now s)) × (0 < n) × (n ≤ maxLevels) ⌝ }
+    ensures { λ r. ⌜ RunFed Bare (now (s .entry)) end from n due deepest r ⌝ }
+{
+    let mut run = Run {
+        i: from,
+        due,
+        deepest,
+        fault,
+    };
+    if end <= from {
+        return run;
+    }
+    if LEVELS < n + 2 {
+        return run;
+    }
+    let stop = from + least(due as usize, end - from - 1);
+    while run.i < stop {
+        let i = run.i;
+        match payloads::first::first_of(s[i]) {
+            First::Unassigned => return run,
+            First::Short { levels } => {
+                run.due -= 1;
+                run.i += 1;
+                run.deepest = larger(run.deepest, n + levels as u16);
+            }
+            First::Long { kind: _ } => return run,
+        }
+    }
+    run
+}
+
+// Where the items of a list are taken from: after the shapes of one byte at its front, where its items are shapes alone; else from the place itself.
+fn front_run(
+    s: &[u8],
+    end: usize,
+    from: usize,
+    items: Items,
+    n: u16,
+    due: u16,
+    deepest: u16,
+    fault: usize,
+) -> Run
+    requires { ⌜ (end ≤ length (now s)) × (0 < n) × (n ≤ maxLevels) ⌝ }
+    ensures { λ r. ⌜ RunFed items (now (s .entry)) end from n due deepest r ⌝ }
+{
+    match items {
+        Items::Bare => shorts_run(s, end, from, n, due, deepest, fault),
+        _ => Run {
+            i: from,
+            due,
+            deepest,
+            fault,
+        },
+    }
+}
+
 // The items of a list from a place on that lie whole in a window, each with another after it there.
 pub fn items_run(
     s: &[u8],
@@ -141,12 +208,7 @@ pub fn items_run(
     requires { ⌜ (end ≤ length (now s)) × (0 < n) × (n ≤ maxLevels) ⌝ }
     ensures { λ r. ⌜ RunFed items (now (s .entry)) end from n due deepest r ⌝ }
 {
-    let mut run = Run {
-        i: from,
-        due,
-        deepest,
-        fault,
-    };
+    let mut run = front_run(s, end, from, items, n, due, deepest, fault);
     while 0 < run.due {
         match item_at(s, end, run.i, items, n, run.deepest) {
             Item::Cut { fault: place } => {

@@ -3,7 +3,7 @@
 use native.Mathlib.Omega.{arith}
 use borrow.Author.Needs.{needs}
 use Rattle.items.specs.Fed.{RunFed}
-use Rattle.items.proofs.Whole.{run-none, run-fault, run-more}
+use Rattle.items.proofs.Whole.{run-fault, run-more}
 use Rattle.items.proofs.items_run.Statement.{statement}
 use Rattle.items.proofs.items_run.Tie as tie
 
@@ -14,7 +14,7 @@ abbrev μ-loop : tie.MeasureT-loop
 μ-loop s end from items n due deepest fault run₀ run = run .due
 
 loop-holds : tie.Need-loop-holds Inv-loop μ-loop
-loop-holds c = let a = c .before in run-none (a .args .items) (a .args .s .now) (a .args .end) (a .args .from) (a .args .n) (a .args .due) (a .args .deepest) (a .args .fault)
+loop-holds c = c .front-run .ensures
 
 returns : tie.Need-returns Inv-loop μ-loop
 returns c = run-fault _ (c .before .before .before .before .before .before .before .loop .inv)
@@ -24,7 +24,7 @@ returns-2 c = c .before .before .before .before .before .before .before .loop .i
 
 loop-again : tie.Need-loop-again Inv-loop μ-loop
 loop-again c =
-    let a = c .before .before .before .before .before .before .before .before .before .before in
+    let a = c .before .before .before .before .before .before .before .before .before .before .before in
     let r = c .before .before .before .before .before .before .before .before .loop in
     let k = c .before .before .before in
     run-more (a .args .items) (a .args .s .now) (a .args .end) (a .args .from) (a .args .n) (a .args .due) (a .args .deepest) (r .run .i) (r .run .due) (r .run .deepest) (r .run .fault) _ _ (r .inv)
@@ -39,6 +39,7 @@ items-run-spec =
     (tie.spec
     Inv-loop
     μ-loop
+    (λ c κs. search needs)
     loop-holds
     (λ c κs. search needs)
     (λ c. search needs)

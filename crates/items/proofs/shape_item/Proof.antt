@@ -1,14 +1,12 @@
 -- `items::shape_item` meets its contract.
 -- Assumes nothing.
 use mathlib.Core.Path.{sym, _∙_}
-use Prim.Native.Nat.{_-_}
 use native.Mathlib.Omega.{arith}
 use lib.ListN.{getD}
 use borrow.Author.Needs.{needs}
 use Rattle.meaning.specs.FirstByte.{classOf}
-use Rattle.meaning.specs.Limits.{maxLevels}
 use Rattle.byte_steps.proofs.Firsts.{short-small}
-use Rattle.items.proofs.Whole.{short-walk, shape-whole}
+use Rattle.items.proofs.Whole.{short-whole}
 use Rattle.items.proofs.shape_item.Statement.{statement}
 use Rattle.items.proofs.shape_item.Tie as tie
 
@@ -23,8 +21,7 @@ returns-4 c =
     let k = c .before .before .before in
     let a = c .before .before .before .before .before .before .before .before .before in
     rw (c .larger .ensures)
-    (shape-whole (a .args .s .now) (a .args .end) (a .args .at) (a .args .n) (a .args .deepest) _ _
-    (short-walk (maxLevels - a .args .n) (a .args .s .now) (a .args .end) (a .args .at) _ (omega arith) (sym (k .before .before .first-of .ensures) ∙ k .levels .given .1) (omega arith)) (omega arith) (omega arith))
+    (short-whole (a .args .s .now) (a .args .end) (a .args .at) (a .args .n) (a .args .deepest) _ (sym (k .before .before .first-of .ensures) ∙ k .levels .given .1) (omega arith) (omega arith) (omega arith))
 
 pub shape-item-spec : {M : Type 1} → statement M
 shape-item-spec =
