@@ -232,14 +232,13 @@ enum shiulbart_pieces_sizes {
 };
 
 /*
- * An open payload: the place of its shape, where it ends, how many items are due after the one that is
- * being read, and what they are.
+ * An open payload: the place of its shape, where it ends, and how many items are due after the one that
+ * is being read.
  */
 typedef struct shiulbart_pieces_entry {
     uint16_t at;
     uint16_t stop;
     uint16_t due;
-    uint16_t items;
 } shiulbart_pieces_entry;
 
 /* What the next byte is. */
@@ -260,26 +259,28 @@ typedef struct shiulbart_pieces_next {
  * shiulbart_pieces_finish gave it. From any other a call still ends, but what it gives is not promised.
  */
 typedef struct shiulbart_pieces {
-    /* the payloads round `top`, from the outside in; the first is the input itself */
-    shiulbart_pieces_entry levels[SHIULBART_PIECES_LEVELS];
-    /* the payload that is being read; the input itself if none is open */
-    shiulbart_pieces_entry top;
     shiulbart_pieces_next next;
-    /* how many of `levels` are in use: so many levels are open, none at the start */
-    uint16_t used;
     /* how many bytes came; it stops at 2,049, however many more there are */
     uint16_t count;
     /* how many bytes the root has, as far as that is known */
     uint16_t whole;
+    /* how many of `levels` are in use: so many levels are open, none at the start */
+    uint16_t used;
     /* how deep the root is so far */
     uint16_t deepest;
+    /* what the items of `top` and of `levels` are, two bits each, those of `top` the lowest */
+    uint64_t kinds;
+    /* the payload that is being read; the input itself if none is open */
+    shiulbart_pieces_entry top;
     /* 1 after the finish, else 0 */
     uint16_t closed;
+    /* the payloads round `top`, from the outside in; the first is the input itself */
+    shiulbart_pieces_entry levels[SHIULBART_PIECES_LEVELS];
 } shiulbart_pieces;
 
 /* The promised size of a state and its true one: nothing stands between its numbers. */
 typedef char shiulbart_pieces_are_small[sizeof(shiulbart_pieces) <= SHIULBART_PIECES_MOST ? 1 : -1];
-typedef char shiulbart_pieces_are_dense[sizeof(shiulbart_pieces) == 154 ? 1 : -1];
+typedef char shiulbart_pieces_are_dense[sizeof(shiulbart_pieces) == 128 ? 1 : -1];
 
 /* What the finish gives: the closed state, and the four numbers of shiulbart_read. */
 typedef struct shiulbart_pieces_end {

@@ -17,19 +17,20 @@ typedef char then_a[offsetof(shiulbart_node, a) == 2 ? 1 : -1];
 typedef char then_b[offsetof(shiulbart_node, b) == 4 ? 1 : -1];
 
 /* and of a state: 16 entries and one of eight bytes, what is next in as many, and five numbers of two */
-typedef char entry_of_eight[sizeof(shiulbart_pieces_entry) == 8 ? 1 : -1];
+typedef char entry_of_six[sizeof(shiulbart_pieces_entry) == 6 ? 1 : -1];
 typedef char next_of_eight[sizeof(shiulbart_pieces_next) == 8 ? 1 : -1];
 typedef char bytes_of_next[offsetof(shiulbart_pieces_next, code) == 4 ? 1 : -1];
-typedef char levels_first[offsetof(shiulbart_pieces, levels) == 0 ? 1 : -1];
-typedef char then_top[offsetof(shiulbart_pieces, top) == 128 ? 1 : -1];
-typedef char then_next[offsetof(shiulbart_pieces, next) == 136 ? 1 : -1];
-typedef char then_used[offsetof(shiulbart_pieces, used) == 144 ? 1 : -1];
-typedef char then_count[offsetof(shiulbart_pieces, count) == 146 ? 1 : -1];
-typedef char then_whole[offsetof(shiulbart_pieces, whole) == 148 ? 1 : -1];
-typedef char then_deepest[offsetof(shiulbart_pieces, deepest) == 150 ? 1 : -1];
-typedef char then_closed[offsetof(shiulbart_pieces, closed) == 152 ? 1 : -1];
-typedef char answer_on_four[offsetof(shiulbart_pieces_end, answer) == 156 ? 1 : -1];
-typedef char end_of_172[sizeof(shiulbart_pieces_end) == 172 ? 1 : -1];
+typedef char next_first[offsetof(shiulbart_pieces, next) == 0 ? 1 : -1];
+typedef char then_count[offsetof(shiulbart_pieces, count) == 8 ? 1 : -1];
+typedef char then_whole[offsetof(shiulbart_pieces, whole) == 10 ? 1 : -1];
+typedef char then_used[offsetof(shiulbart_pieces, used) == 12 ? 1 : -1];
+typedef char then_deepest[offsetof(shiulbart_pieces, deepest) == 14 ? 1 : -1];
+typedef char then_kinds[offsetof(shiulbart_pieces, kinds) == 16 ? 1 : -1];
+typedef char then_top[offsetof(shiulbart_pieces, top) == 24 ? 1 : -1];
+typedef char then_closed[offsetof(shiulbart_pieces, closed) == 30 ? 1 : -1];
+typedef char then_levels[offsetof(shiulbart_pieces, levels) == 32 ? 1 : -1];
+typedef char then_answer[offsetof(shiulbart_pieces_end, answer) == 128 ? 1 : -1];
+typedef char end_of_144[sizeof(shiulbart_pieces_end) == 144 ? 1 : -1];
 
 static unsigned passed, failed;
 

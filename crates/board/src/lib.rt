@@ -7,12 +7,16 @@ use answers::read_answer;
 use answers::sheet_answer;
 use editor::Node;
 use pieces::halted;
-use pieces::state::State;
-use pieces::state::entry_of;
-use pieces::state::level_of;
-use pieces::state::mode_of;
-use pieces::state::no_entry;
-use pieces::state::word_of;
+use pieces::lettered;
+use pieces::letters_only;
+use states::DIGIT;
+use states::State;
+use states::entry_of;
+use states::kinds_with;
+use states::level_of;
+use states::mode_of;
+use states::no_entry;
+use states::word_of;
 use turns::begun;
 use turns::moves::Act;
 use turns::taken_up;
@@ -115,13 +119,19 @@ pub extern "C" fn shiulbart_pieces_start() -> State
 }
 
 // The state after one more part, of whatever length, also of none. A part after the finish changes nothing. The state is worked on in place: what the
-// loop needs at each turn is held beside it, and put back where the part ends.
+// loop needs at each turn is held beside it, and put back where the part ends. Of a part that is letters alone two numbers change.
 #[no_mangle]
 pub extern "C" fn shiulbart_pieces_part(mut state: State, part: &[u8]) -> State
     ensures still { λ r. ⌜ (0 < state .closed → r ≡ state) ⌝ }
     ensures led { λ r. ⌜ ((u : List ℕ) → state ≡ ledTo u → r ≡ ledTo (u ++ now (part .entry))) ⌝ }
 {
     let next = state.next;
+    let size = letters_only(part, next, state.count, state.closed);
+    if 0 < size {
+        state.next = lettered(next, size);
+        state.count += size;
+        return state;
+    }
     let mode = mode_of(next);
     if halted(state.closed, state.used, mode) {
         return state;
@@ -129,12 +139,13 @@ pub extern "C" fn shiulbart_pieces_part(mut state: State, part: &[u8]) -> State
     let first = state.top;
     let mut t = begun(
         mode,
-        level_of(first),
+        level_of(first, state.kinds),
         state.count,
         state.whole,
         state.deepest,
     );
     let mut n = state.used;
+    let mut kinds = state.kinds / DIGIT;
     loop {
         // the level in hand, should the turn lay it by
         let over = t.top;
@@ -145,6 +156,7 @@ pub extern "C" fn shiulbart_pieces_part(mut state: State, part: &[u8]) -> State
             Act::Push => {
                 let k = n as usize;
                 state.levels[k] = entry_of(over);
+                kinds = kinds_with(kinds, over);
                 n += 1;
             }
             Act::Pop => {
@@ -152,12 +164,14 @@ pub extern "C" fn shiulbart_pieces_part(mut state: State, part: &[u8]) -> State
                 let k = n as usize;
                 let entry = state.levels[k];
                 state.levels[k] = no_entry();
-                t = taken_up(t, level_of(entry));
+                t = taken_up(t, level_of(entry, kinds));
+                kinds = kinds / DIGIT;
             }
             Act::Rest => {
                 let mode = t.mode;
                 let top = t.top;
                 state.top = entry_of(top);
+                state.kinds = kinds_with(kinds, top);
                 state.next = word_of(mode);
                 state.used = n;
                 state.count = t.count;

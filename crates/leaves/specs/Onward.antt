@@ -1,4 +1,4 @@
--- What the private functions of the text check say. Not to be believed: no public contract cites it.
+-- What the functions of the text check say to our own crates. Not to be believed: no exported contract cites it.
 use mathlib.Core.Path.{_≡_}
 use Prim.Native.Nat.{ℕ, _+_, _≤_}
 use mathlib.Core.List.{List}

@@ -148,7 +148,7 @@ fn char_at(s: &[u8], end: usize, at: usize) -> usize
 }
 
 // Whether a block of bytes stands at a place of a window, each of them a character: one test for all, of which the compiler makes vector code.
-fn block_at(s: &[u8], end: usize, at: usize, size: usize) -> bool
+pub fn block_at(s: &[u8], end: usize, at: usize, size: usize) -> bool
     requires { ⌜ (at ≤ end) × (end ≤ length (now s)) ⌝ }
     ensures { λ r. ⌜ (r ≡ true → Onward (now (s .entry)) end at (at + size)) ⌝ }
 {

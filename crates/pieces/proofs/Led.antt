@@ -1,19 +1,19 @@
 -- What the bytes u lead to: the state stands for the automaton's run over u, so a part leads on and the finish says what reading means.
 --     Fair                          a run that waits for a byte, with an entry for each level that is open or about to open
---     led-fair, run-back, led-run   what bytes lead to is such a run, and its state stands for it
+--     mode-in                       what waits for a byte, as numbers and back
+--     led-fair, led-run             what bytes lead to is such a run, and its state stands for it
 --     led-room, led-open            it has room, and is not finished
---     led-exact                     its entries are those of the levels laid by
---     part-led                      a part leads on
+--     part-led, letters-led         a part leads on; one that is letters of a text alone
 --     finish-led                    the finish says what reading means, also of a state that was finished
 --     finish-small                  what it says fits two bytes a number, whatever the state
 --     part-can, finish-can          of any state there is an outcome that the calls' contracts allow
 -- Assumes nothing.
 use mathlib.Core.Path.{_≡_, refl, ap, sym, _∙_}
-use mathlib.Core.Bool.{true, not}
+use mathlib.Core.Bool.{true, not, false≢true}
 use mathlib.Core.List.{List, [], _∷_, _++_}
-use Prim.Native.Nat.{ℕ, zero, suc, _+_, _≤_, _<_}
+use Prim.Native.Nat.{ℕ, zero, suc, _+_, _-_, _≤_, _<_}
 use native.Mathlib.Omega.{arith}
-use lib.ListN.{length, getD, length-set}
+use lib.ListN.{length, getD, length-set, drop-of-length-le}
 use lib.Dec.{ltb, leb, eqb}
 use borrow.Author.Tests.{lt-ltb}
 use Rattle.meaning.specs.Rules.{_⇒_∣_}
@@ -31,16 +31,17 @@ use Rattle.reader.proofs.Whole.{judged}
 use Rattle.byte_steps.specs.declared.modes.Items.{Items}
 use Rattle.byte_steps.specs.declared.modes.Items.the-variants.{Plain, Bare, Fields, Texts}
 use Rattle.byte_steps.specs.declared.modes.Level.{Level}
-use Rattle.pieces.specs.declared.state.State.{State}
+use Rattle.states.specs.declared.State.{State}
 use Rattle.byte_steps.specs.declared.modes.Mode.{Mode}
 use Rattle.byte_steps.specs.declared.modes.Mode.the-variants.{Head, SizeLow, SizeHigh, Opening, Count, CountMore, Length, LengthMore, Letters, BlankLow, BlankHigh, Between, Done, Faulty}
 use Rattle.byte_steps.specs.Automaton.{plain, itemDue, shapeDue, lengthDue, countDue, levelOf, wholeOf, taken, settle, opened, entered, step, fed, start, verdict, finish, Run, run}
 use Rattle.turns.specs.Moves.{resting, sized}
-use Rattle.pieces.specs.Kept.{entryOf, modeIn, modeHigh, stackOf, laidOut, runOf, stateOf, judgedOut}
-use Rattle.pieces.specs.Led.{closedOf, ledTo, Small}
+use Rattle.states.specs.Kept.{entryOf, kindsOf, kindNumber, kindIn, wordOf, modeIn, modeHigh, stackOf, laidOut, runOf, stateWith, stateOf}
+use Rattle.pieces.specs.Led.{closedOf, judgedOut, ledTo, LettersOnly, lettered, Small}
 use Rattle.byte_steps.proofs.Fed.{fed-parts, fed-said}
+use Rattle.items.proofs.Inside.{letters-on}
 use Rattle.turns.proofs.Moving.{fair-taken}
-use Rattle.pieces.proofs.Keeping.{stack-push, level-in, mode-in}
+use Rattle.states.proofs.Keeping.{stack-push, high-digits, level-in, letters-in}
 
 -- a run that waits for a byte, with an entry for each level that is open or about to open
 pub record Fair (r : Run) : Type 0 where
@@ -118,20 +119,46 @@ unfolding start
 led-fair u = fed-fair u start (record { rests = refl; room = omega arith })
 
 -- A run that is fair, as numbers and back.
-laid-length : (ls : List Level) → length (laidOut ls) ≡ maxLevels
+kind-in : (k : Kind) → kindIn (kindNumber k) ≡ k
+kind-in Array = refl
+kind-in Map = refl
+kind-in Record = refl
+kind-in Function = refl
+kind-in Symbol = refl
+kind-in Variable = refl
+
+pub mode-in : (m : Mode) → resting m ≡ true → modeIn (wordOf m) ≡ m
+unfolding modeIn modeHigh wordOf
+mode-in Head h = refl
+mode-in (SizeLow kind from) h = ap (λ k. SizeLow k from) (kind-in kind)
+mode-in (SizeHigh kind from low) h = ap (λ k. SizeHigh k from low) (kind-in kind)
+mode-in (Opening kind from stop) h = absurd (false≢true h)
+mode-in Count h = refl
+mode-in (CountMore from low) h = refl
+mode-in Length h = refl
+mode-in (LengthMore from low) h = refl
+mode-in (Letters from left m low high) h = refl
+mode-in (BlankLow from) h = refl
+mode-in (BlankHigh from low) h = refl
+mode-in Between h = absurd (false≢true h)
+mode-in Done h = refl
+mode-in (Faulty number place) h = refl
+
+pub laid-length : (ls : List Level) → length (laidOut ls) ≡ maxLevels
 unfolding laidOut
 laid-length [] = refl
 laid-length (l ∷ ls) = length-set (laidOut ls) (length ls) (entryOf l) ∙ laid-length ls
 
-stack-back : (ls : List Level) → length ls ≤ maxLevels → stackOf (laidOut ls) (length ls) ≡ ls
-unfolding laidOut stackOf
+stack-back : (ls : List Level) → length ls ≤ maxLevels → stackOf (laidOut ls) (kindsOf ls) (length ls) ≡ ls
+unfolding laidOut stackOf kindsOf
 stack-back [] h = refl
 stack-back (l ∷ ls) h =
-    stack-push (laidOut ls) (entryOf l) (length ls) (rw (laid-length ls) (omega arith))
-    ∙ rw (level-in l, stack-back ls (omega arith))
+    stack-push (laidOut ls) (entryOf l) (kindsOf (l ∷ ls)) (length ls) (rw (laid-length ls) (omega arith))
+    ∙ rw (level-in l (kindsOf ls), high-digits (kindsOf ls) (l .items), stack-back ls (omega arith))
 
-pub run-back : (r : Run) → Fair r → runOf (stateOf r) ≡ r
-run-back r f = rw (stack-back (r .stack) (omega (arith, f .room)), level-in (r .top), mode-in (r .mode) (f .rests))
+run-back : (r : Run) → Fair r → runOf (stateOf r) ≡ r
+unfolding kindsOf
+run-back r f = rw (high-digits (kindsOf (r .stack)) (r .top .items), stack-back (r .stack) (omega (arith, f .room)), level-in (r .top) (kindsOf (r .stack)), mode-in (r .mode) (f .rests))
 
 -- The state that bytes lead to stands for the run over them.
 pub led-run : (u : List ℕ) → runOf (ledTo u) ≡ fed start u
@@ -144,13 +171,25 @@ led-room u s e = rw (e, mode-in (fed start u .mode) (led-fair u .rests)) (led-fa
 pub led-open : (u : List ℕ) (s : State) → s ≡ ledTo u → s .closed ≡ 0
 led-open u s e = ap (λ (y : State). y .closed) e
 
--- Its entries are those of the levels laid by, and empty above them.
-pub led-exact : (u : List ℕ) → ledTo u .levels ≡ laidOut (stackOf (ledTo u .levels) (ledTo u .used))
-led-exact u = ap laidOut (sym (stack-back (fed start u .stack) (omega (arith, led-fair u .room))))
-
 -- A part leads on.
-pub part-led : (u v : List ℕ) (r : Run) → fed (runOf (ledTo u)) v ≡ r → stateOf r ≡ ledTo (u ++ v)
-part-led u v r e = ap stateOf (sym e ∙ ap (λ x. fed x v) (led-run u) ∙ fed-parts start u v)
+pub part-led : (u v : List ℕ) (r : Run) → fed (fed start u) v ≡ r → stateOf r ≡ ledTo (u ++ v)
+part-led u v r e = ap stateOf (sym e ∙ fed-parts start u v)
+
+-- One that is letters of a text alone leaves the text that much shorter.
+letters-fed : (r : Run) (v : List ℕ) (size closed : ℕ) → Fair r → 0 < size → LettersOnly v (wordOf (r .mode)) (r .count) closed size
+    → stateWith (r .stack) (r .top) (lettered (wordOf (r .mode)) size) (r .count + size) (r .whole) (r .deepest) ≡ stateOf (fed r v)
+unfolding wordOf fed
+letters-fed r v size closed f p h =
+    let w = wordOf (r .mode) in
+    ap stateOf {x = run (r .stack) (r .top) (Letters (w .a) (w .b - size) 0 0 0) (r .count + size) (r .whole) (r .deepest)} (sym (
+    ap (λ x. fed (run (r .stack) (r .top) x (r .count) (r .whole) (r .deepest)) v) (sym (mode-in (r .mode) (f .rests)) ∙ letters-in w (h .text) (h .between))
+    ∙ letters-on v (r .stack) (r .top) (r .whole) (r .deepest) 0 size (w .a) (w .b) (w .low) (w .high) (r .count) size (omega arith) (omega (arith, h .all)) (omega (arith, h .few)) (h .well) p (h .more)
+    ∙ rw (drop-of-length-le v {i = 0 + size} (omega (arith, h .all)))
+    ))
+
+pub letters-led : (u v : List ℕ) (s : State) (size : ℕ) → s ≡ ledTo u → 0 < size → LettersOnly v (s .next) (s .count) (s .closed) size
+    → record { next = lettered (s .next) size; count = s .count + size; whole = s .whole; used = s .used; deepest = s .deepest; kinds = s .kinds; top = s .top; closed = s .closed; levels = s .levels } ≡ ledTo (u ++ v)
+letters-led u v s size e p h = rw e (letters-fed (fed start u) v size 0 (led-fair u) p (rw e at h) ∙ part-led u v (fed (fed start u) v) refl)
 
 -- The finish says what reading means,
 judged-same : (o : Out ℕ) → judgedOut o ≡ judged o
@@ -205,7 +244,7 @@ pub part-can : (s : State) (v : List ℕ) → (r : State) × (0 < s .closed → 
 part-can s v = (
   (ltb 0 (s .closed) ⇒ s ∣ λ _. stateOf (fed (runOf s) v)),
   (λ h. rw (lt-ltb 0 (s .closed) h)),
-  λ u e. rw e (part-led u v (fed (runOf (ledTo u)) v) refl),
+  λ u e. rw (e, led-run u) (part-led u v (fed (fed start u) v) refl),
 )
 
 pub finish-can : (s : State) → (a : Judgement) × ((u : List ℕ) → Bytes u → closedOf s ≡ closedOf (ledTo u) → a ≡ said (reading u))

@@ -1,57 +1,68 @@
 -- The loop over a part's bytes: what holds at each of its turns, and what its end leads to.
---     Inv                              what holds
+--     Held, Inv                        what holds
 --     inv-start                        before the first turn
 --     inv-stay, inv-push, inv-pop      after a turn, by what becomes of the levels
 --     stay-less, push-less, pop-less   less is left to be done then
 --     rest-led                         at the part's end
 -- Assumes nothing.
 use mathlib.Core.Path.{_≡_, refl, ap, sym, _∙_, subst}
-use mathlib.Core.Bool.{true}
 use mathlib.Core.List.{List, [], _∷_, _++_}
-use Prim.Native.Nat.{ℕ, zero, suc, _+_, _-_, _≤_, _<_}
+use Prim.Native.Nat.{ℕ, zero, suc, _+_, _-_, _/_, _≤_, _<_}
 use native.Mathlib.Omega.{arith}
-use native.Mathlib.Numerals.{add-one, sub-one}
 use lib.ListN.{length, getD, set, drop, length-set, drop-of-length-le, replicate}
-use lib.Seq.{getD-set-other, set-getD, set-set}
+use lib.Seq.{getD-set-same, getD-set-other, set-getD, set-set}
 use Rattle.meaning.specs.Limits.{maxLevels}
 use Rattle.byte_steps.specs.declared.modes.Level.{Level}
 use Rattle.byte_steps.specs.declared.modes.Mode.{Mode}
-use Rattle.pieces.specs.declared.state.Entry.{Entry}
+use Rattle.states.specs.declared.Entry.{Entry}
+use Rattle.states.specs.declared.State.{State}
 use Rattle.turns.specs.declared.moves.Act.{Act}
 use Rattle.turns.specs.declared.moves.Act.the-variants.{Rest, Stay, Push, Pop}
 use Rattle.turns.specs.declared.Turned.{Turned}
-use Rattle.byte_steps.specs.Automaton.{entered, fed, run}
-use Rattle.turns.specs.Moves.{resting, sized}
+use Rattle.byte_steps.specs.Automaton.{entered, fed, start, run}
+use Rattle.turns.specs.Moves.{sized}
 use Rattle.turns.specs.Leads.{Leads, toDo, onward, Lighter}
-use Rattle.pieces.specs.Kept.{entryOf, levelIn, stackOf, laidOut, noEntry, wordOf, runOf}
+use Rattle.states.specs.Kept.{entryOf, levelIn, kindsOf, kindsWith, laidOut, noEntry, wordOf, modeIn}
 use Rattle.pieces.specs.Led.{ledTo}
 use Rattle.turns.proofs.Moving.{enter-rest}
-use Rattle.pieces.proofs.Keeping.{stack-length, stack-push, stack-same, items-in, level-in}
-use Rattle.pieces.proofs.Led.{led-exact, part-led}
+use Rattle.states.proofs.Keeping.{high-digits, level-in, kinds-with}
+use Rattle.pieces.proofs.Led.{mode-in, led-fair, laid-length, part-led}
 
--- The loop over the bytes s began with the entries es₀ and what stands beside them; now it is at i.
-pub record Inv (s : List ℕ) (es₀ : List Entry) (m₀ : Mode) (top₀ : Level) (n₀ count₀ whole₀ deepest₀ : ℕ) (es : List Entry) (m : Mode) (top : Level) (n count whole deepest i : ℕ) : Type 0 where
+-- The loop over the bytes s is at i, and began with the state that the bytes u lead to: these are the levels laid by.
+pub record Held (u s : List ℕ) (es : List Entry) (kinds : ℕ) (m : Mode) (top : Level) (n count whole deepest i : ℕ) : Type 0 where
+  pub stack : List Level
+  pub high : length stack ≡ n
+  pub levels : es ≡ laidOut stack
+  pub digits : kinds ≡ kindsOf stack
+  pub same : fed (fed start u) s ≡ fed (entered m stack top count whole deepest) (drop i s)
+
+-- It is at i, and began with a state that was given.
+pub record Inv (s : List ℕ) (given : State) (es : List Entry) (kinds : ℕ) (m : Mode) (top : Level) (n count whole deepest i : ℕ) : Type 0 where
   pub fair : n + sized m ≤ maxLevels
   pub within : i ≤ length s
-  pub same : fed (run (stackOf es₀ n₀) top₀ m₀ count₀ whole₀ deepest₀) s ≡ fed (entered m (stackOf es n) top count whole deepest) (drop i s)
   pub size : length es ≡ maxLevels
-  pub exact : es₀ ≡ laidOut (stackOf es₀ n₀) → es ≡ laidOut (stackOf es n)
+  pub led : (u : List ℕ) → given ≡ ledTo u → Held u s es kinds m top n count whole deepest i
 
-pub inv-start : (s : List ℕ) (es : List Entry) (m : Mode) (top : Level) (n count whole deepest : ℕ) → n + sized m ≤ maxLevels → length es ≡ maxLevels → resting m ≡ true
-    → Inv s es m top n count whole deepest es m top n count whole deepest 0
-inv-start s es m top n count whole deepest f l r = record {
+held-start : (u s : List ℕ) → Held u s (ledTo u .levels) (ledTo u .kinds / 4) (modeIn (ledTo u .next)) (levelIn (ledTo u .top) (ledTo u .kinds)) (ledTo u .used) (ledTo u .count) (ledTo u .whole) (ledTo u .deepest) 0
+unfolding kindsOf
+held-start u s =
+    let r = fed start u in let f = led-fair u in
+    record {
+      stack = r .stack;
+      high = refl;
+      levels = refl;
+      digits = high-digits (kindsOf (r .stack)) (r .top .items);
+      same = rw (level-in (r .top) (kindsOf (r .stack)), mode-in (r .mode) (f .rests), enter-rest (r .mode) (r .stack) (r .top) (r .count) (r .whole) (r .deepest) (f .rests));
+    }
+
+pub inv-start : (s : List ℕ) (given : State) → given .used + sized (modeIn (given .next)) ≤ maxLevels → length (given .levels) ≡ maxLevels
+    → Inv s given (given .levels) (given .kinds / 4) (modeIn (given .next)) (levelIn (given .top) (given .kinds)) (given .used) (given .count) (given .whole) (given .deepest) 0
+inv-start s given f l = record {
   fair = f;
   within = omega arith;
-  same = rw (enter-rest m (stackOf es n) top count whole deepest r);
   size = l;
-  exact = λ x. x;
+  led = λ u e. subst (λ (g : State). Held u s (g .levels) (g .kinds / 4) (modeIn (g .next)) (levelIn (g .top) (g .kinds)) (g .used) (g .count) (g .whole) (g .deepest) 0) (sym e) (held-start u s);
 }
-
--- an entry that is there is the same whatever stands for one that is not
-getD-any : (l : List Entry) (i : ℕ) (a b : Entry) → i < length l → getD l i a ≡ getD l i b
-getD-any [] i a b h = absurd (omega arith)
-getD-any (x ∷ l) zero a b h = refl
-getD-any (x ∷ l) (suc i) a b h = getD-any l i a b (omega arith)
 
 -- an entry above those in use is empty
 empty-at : (m k : ℕ) → getD (replicate m noEntry) k noEntry ≡ noEntry
@@ -64,36 +75,37 @@ unfolding laidOut
 tidy [] k h = empty-at maxLevels k
 tidy (l ∷ ls) k h = getD-set-other (laidOut ls) (length ls) k (entryOf l) noEntry (λ q. omega arith) ∙ tidy ls k (omega arith)
 
--- the entries are those of the levels laid by, and empty above them: after a level is laid by, and after one is taken up
-exact-push : (es : List Entry) (n : ℕ) (top : Level) → n < length es → es ≡ laidOut (stackOf es n) → set es n (entryOf top) ≡ laidOut (stackOf (set es n (entryOf top)) (n + 1))
+-- without the level laid by last
+laid-down : (l : Level) (ls : List Level) → set (laidOut (l ∷ ls)) (length ls) noEntry ≡ laidOut ls
 unfolding laidOut
-exact-push es n top h e = rw (add-one n, stack-push es (entryOf top) n h, items-in (top .items), stack-length es n) (ap (λ x. set x n (entryOf top)) e)
+laid-down l ls =
+    set-set (laidOut ls) (length ls) (entryOf l) noEntry
+    ∙ ap (set (laidOut ls) (length ls)) (sym (tidy ls (length ls) (omega arith)))
+    ∙ set-getD (laidOut ls) (length ls) noEntry
 
-exact-down : (es : List Entry) (n : ℕ) → es ≡ laidOut (stackOf es (suc n)) → set es n noEntry ≡ laidOut (stackOf es n)
-unfolding laidOut stackOf
-exact-down es n e =
-    ap (λ x. set x n noEntry) (rw (stack-length es n) at e)
-    ∙ set-set (laidOut (stackOf es n)) n _ noEntry
-    ∙ ap (set (laidOut (stackOf es n)) n) (sym (tidy (stackOf es n) n (rw (stack-length es n) (omega arith))))
-    ∙ set-getD (laidOut (stackOf es n)) n noEntry
+-- and that level
+laid-last : (l : Level) (ls : List Level) (z : Entry) → length ls < maxLevels → getD (laidOut (l ∷ ls)) (length ls) z ≡ entryOf l
+unfolding laidOut
+laid-last l ls z h = getD-set-same (laidOut ls) (length ls) (entryOf l) z (rw (laid-length ls) h)
 
-exact-pop : (es : List Entry) (n : ℕ) → 0 < n → es ≡ laidOut (stackOf es n) → set es (n - 1) noEntry ≡ laidOut (stackOf (set es (n - 1) noEntry) (n - 1))
-exact-pop es zero h e = absurd (omega arith)
-exact-pop es (suc n) h e = rw (sub-one, stack-same es noEntry n n (omega arith)) (exact-down es n e)
-
-module _ {s : List ℕ} {es₀ : List Entry} {m₀ : Mode} {top₀ : Level} {n₀ count₀ whole₀ deepest₀ : ℕ} {es : List Entry} {m : Mode} {top : Level} {n count whole deepest i : ℕ}
-    (inv : Inv s es₀ m₀ top₀ n₀ count₀ whole₀ deepest₀ es m top n count whole deepest i) {t : Turned} (lead : Leads s i m top n count whole deepest t) where
+module _ {s : List ℕ} {given : State} {es : List Entry} {kinds : ℕ} {m : Mode} {top : Level} {n count whole deepest i : ℕ} (inv : Inv s given es kinds m top n count whole deepest i)
+    {t : Turned} (lead : Leads s i m top n count whole deepest t) where
   light : (a : Act) → t .act ≡ a → Lighter s i m n t a
   light a e = subst (λ x. Lighter s i m n t x) e (lead .lighter)
 
-  on : (a : Act) → t .act ≡ a → fed (run (stackOf es₀ n₀) top₀ m₀ count₀ whole₀ deepest₀) s ≡ fed (onward t (stackOf es n) top a) (drop (t .i) s)
-  on a e = inv .same ∙ lead .same (stackOf es n) (stack-length es n) ∙ ap (λ x. fed (onward t (stackOf es n) top x) (drop (t .i) s)) e
+  on : (a : Act) → t .act ≡ a → {u : List ℕ} (h : Held u s es kinds m top n count whole deepest i) → fed (fed start u) s ≡ fed (onward t (h .stack) top a) (drop (t .i) s)
+  on a e h = h .same ∙ lead .same (h .stack) (h .high) ∙ ap (λ x. fed (onward t (h .stack) top x) (drop (t .i) s)) e
 
   pub stay-less : t .act ≡ Stay → toDo s (t .i) (t .mode) n < toDo s i m n
   stay-less e = light Stay e .0
 
-  pub inv-stay : t .act ≡ Stay → Inv s es₀ m₀ top₀ n₀ count₀ whole₀ deepest₀ es (t .mode) (t .top) n (t .count) (t .whole) (t .deepest) (t .i)
-  inv-stay e = record { fair = light Stay e .1; within = lead .within; same = on Stay e; size = inv .size; exact = inv .exact }
+  pub inv-stay : t .act ≡ Stay → Inv s given es kinds (t .mode) (t .top) n (t .count) (t .whole) (t .deepest) (t .i)
+  inv-stay e = record {
+    fair = light Stay e .1;
+    within = lead .within;
+    size = inv .size;
+    led = λ u g. let h = inv .led u g in record { stack = h .stack; high = h .high; levels = h .levels; digits = h .digits; same = on Stay e h };
+  }
 
   pub push-room : t .act ≡ Push → n < maxLevels
   push-room e = light Push e .0
@@ -101,16 +113,25 @@ module _ {s : List ℕ} {es₀ : List Entry} {m₀ : Mode} {top₀ : Level} {n�
   pub push-less : t .act ≡ Push → toDo s (t .i) (t .mode) (n + 1) < toDo s i m n
   push-less e = light Push e .1
 
-  pub inv-push : t .act ≡ Push → Inv s es₀ m₀ top₀ n₀ count₀ whole₀ deepest₀ (set es n (entryOf top)) (t .mode) (t .top) (n + 1) (t .count) (t .whole) (t .deepest) (t .i)
-  inv-push e =
-      let l = push-room e in let h : n < length es = omega (arith, inv .size) in
+  push-held : t .act ≡ Push → {u : List ℕ} → Held u s es kinds m top n count whole deepest i → Held u s (set es n (entryOf top)) (kindsWith kinds top) (t .mode) (t .top) (n + 1) (t .count) (t .whole) (t .deepest) (t .i)
+  unfolding laidOut
+  push-held e h =
+      let l = push-room e in
       record {
-        fair = light Push e .2;
-        within = lead .within;
-        same = on Push e ∙ rw (add-one n, stack-push es (entryOf top) n h, level-in top);
-        size = length-set es n (entryOf top) ∙ inv .size;
-        exact = λ x. exact-push es n top h (inv .exact x);
+        stack = top ∷ h .stack;
+        high = omega (arith, h .high);
+        levels = rw (h .levels, ← h .high);
+        digits = rw (h .digits) (kinds-with (h .stack) top (omega (arith, h .high)));
+        same = on Push e h;
       }
+
+  pub inv-push : t .act ≡ Push → Inv s given (set es n (entryOf top)) (kindsWith kinds top) (t .mode) (t .top) (n + 1) (t .count) (t .whole) (t .deepest) (t .i)
+  inv-push e = record {
+    fair = light Push e .2;
+    within = lead .within;
+    size = length-set es n (entryOf top) ∙ inv .size;
+    led = λ u g. push-held e (inv .led u g);
+  }
 
   pub pop-some : t .act ≡ Pop → 0 < n
   pop-some e = light Pop e .0
@@ -118,29 +139,34 @@ module _ {s : List ℕ} {es₀ : List Entry} {m₀ : Mode} {top₀ : Level} {n�
   pub pop-less : t .act ≡ Pop → toDo s (t .i) (t .mode) (n - 1) < toDo s i m n
   pop-less e = light Pop e .1
 
-  -- the stack's last level
-  popped : (k : ℕ) → n ≡ suc k → (z : Entry) → k < length es → onward t (stackOf es n) top Pop ≡ entered (t .mode) (stackOf es k) (levelIn (getD es k z)) (t .count) (t .whole) (t .deepest)
-  unfolding stackOf
-  popped k e z h = rw e (ap (λ x. entered (t .mode) (stackOf es k) (levelIn x) (t .count) (t .whole) (t .deepest)) (getD-any es k _ z h))
-
-  pub inv-pop : t .act ≡ Pop → (z : Entry) → Inv s es₀ m₀ top₀ n₀ count₀ whole₀ deepest₀ (set es (n - 1) noEntry) (t .mode) (levelIn (getD es (n - 1) z)) (n - 1) (t .count) (t .whole) (t .deepest) (t .i)
-  inv-pop e z =
-      let l = pop-some e in let f = inv .fair in
+  pop-held : t .act ≡ Pop → (z : Entry) {u : List ℕ} (ls : List Level) → length ls ≡ n → es ≡ laidOut ls → kinds ≡ kindsOf ls → fed (fed start u) s ≡ fed (onward t ls top Pop) (drop (t .i) s)
+      → Held u s (set es (n - 1) noEntry) (kinds / 4) (t .mode) (levelIn (getD es (n - 1) z) kinds) (n - 1) (t .count) (t .whole) (t .deepest) (t .i)
+  unfolding kindsOf
+  pop-held e z [] high levels digits same = absurd (omega (arith, pop-some e))
+  pop-held e z (l ∷ ls) high levels digits same =
+      let f = inv .fair in let k : n - 1 ≡ length ls = omega arith in
       record {
-        fair = light Pop e .2;
-        within = lead .within;
-        same = on Pop e ∙ ap (λ x. fed x (drop (t .i) s)) (popped (n - 1) (omega arith) z (omega (arith, inv .size)) ∙ rw (stack-same es noEntry (n - 1) (n - 1) (omega arith)));
-        size = length-set es (n - 1) noEntry ∙ inv .size;
-        exact = λ x. exact-pop es n l (inv .exact x);
+        stack = ls;
+        high = sym k;
+        levels = rw (levels, k) (laid-down l ls);
+        digits = rw digits (high-digits (kindsOf ls) (l .items));
+        same = rw (levels, k, laid-last l ls z (omega arith), digits, level-in l (kindsOf ls)) same;
       }
 
+  pub inv-pop : t .act ≡ Pop → (z : Entry) → Inv s given (set es (n - 1) noEntry) (kinds / 4) (t .mode) (levelIn (getD es (n - 1) z) kinds) (n - 1) (t .count) (t .whole) (t .deepest) (t .i)
+  inv-pop e z = record {
+    fair = light Pop e .2;
+    within = lead .within;
+    size = length-set es (n - 1) noEntry ∙ inv .size;
+    led = λ u g. let h = inv .led u g in pop-held e z (h .stack) (h .high) (h .levels) (h .digits) (on Pop e h);
+  }
+
   -- At the part's end: if the loop began with the state that the bytes u lead to, this is the state that u and the part lead to.
-  pub rest-led : t .act ≡ Rest → (u : List ℕ) → runOf (ledTo u) ≡ run (stackOf es₀ n₀) top₀ m₀ count₀ whole₀ deepest₀ → es₀ ≡ ledTo u .levels → n₀ ≡ ledTo u .used
-      → record { levels = es; top = entryOf (t .top); next = wordOf (t .mode); used = n; count = t .count; whole = t .whole; deepest = t .deepest; closed = 0 } ≡ ledTo (u ++ s)
+  pub rest-led : t .act ≡ Rest → (u : List ℕ) → given ≡ ledTo u
+      → record { next = wordOf (t .mode); count = t .count; whole = t .whole; used = n; deepest = t .deepest; kinds = kindsWith kinds (t .top); top = entryOf (t .top); closed = 0; levels = es } ≡ ledTo (u ++ s)
   unfolding fed
-  rest-led e u r p q =
-      let h = light Rest e in
-      ap (λ x. record { levels = x; top = entryOf (t .top); next = wordOf (t .mode); used = n; count = t .count; whole = t .whole; deepest = t .deepest; closed = 0 }) (inv .exact (rw (p, q) (led-exact u)))
-      ∙ ap (λ x. record { levels = laidOut (stackOf es n); top = entryOf (t .top); next = wordOf (t .mode); used = x; count = t .count; whole = t .whole; deepest = t .deepest; closed = 0 }) (sym (stack-length es n))
-      ∙ part-led u s (run (stackOf es n) (t .top) (t .mode) (t .count) (t .whole) (t .deepest))
-      (ap (λ x. fed x s) r ∙ on Rest e ∙ rw (drop-of-length-le s {i = t .i} (h .1)) (enter-rest (t .mode) (stackOf es n) (t .top) (t .count) (t .whole) (t .deepest) (h .0)))
+  rest-led e u g =
+      let h = inv .led u g in let l = light Rest e in let f = inv .fair in
+      rw (h .levels, h .digits, ← h .high, kinds-with (h .stack) (t .top) (omega (arith, h .high)))
+      (part-led u s (run (h .stack) (t .top) (t .mode) (t .count) (t .whole) (t .deepest))
+      (on Rest e h ∙ rw (drop-of-length-le s {i = t .i} (l .1)) (enter-rest (t .mode) (h .stack) (t .top) (t .count) (t .whole) (t .deepest) (l .0))))

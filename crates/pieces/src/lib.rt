@@ -1,7 +1,5 @@
 // A reader that is fed with parts and answers at the finish, as the whole reader does for the parts joined: its state, the start and the finish. The
 // loop over a part stands in the exported call itself (board), where it needs one copy of the state less.
-pub mod state;
-
 use byte_steps::modes::BYTES;
 use byte_steps::modes::LEVELS;
 use byte_steps::modes::Mode;
@@ -11,13 +9,14 @@ use leaves::refusals::CUT_SHORT;
 use leaves::refusals::INPUT_TOO_LONG;
 use leaves::refusals::SIZE_WRONG;
 use reader::Judgement;
-use state::BARE;
-use state::Entry;
-use state::HEAD;
-use state::State;
-use state::Word;
-use state::mode_of;
-use state::no_entry;
+use states::BARE;
+use states::Entry;
+use states::HEAD;
+use states::LETTERS;
+use states::State;
+use states::Word;
+use states::mode_of;
+use states::no_entry;
 use turns::moves::sized;
 ghost use mathlib.Core.Path.{_≡_};
 ghost use mathlib.Core.Bool.{true, false};
@@ -25,8 +24,7 @@ ghost use Prim.Native.Nat.{ℕ, _+_, _<_, _≤_};
 ghost use Rattle.meaning.specs.Limits.{maxLevels};
 ghost use Rattle.turns.specs.Moves.{sized};
 ghost use Rattle.byte_steps.specs.Automaton.{verdict};
-ghost use Rattle.pieces.specs.Kept.{judgedOut};
-ghost use Rattle.pieces.specs.Led.{Small, closedOf, ledTo};
+ghost use Rattle.pieces.specs.Led.{LettersOnly, Small, closedOf, judgedOut, ledTo, lettered};
 ghost use mathlib.Core.List.{List, []};
 ghost use Rattle.meaning.specs.Within.{Bytes};
 ghost use Rattle.meaning.specs.Reading.{reading};
@@ -37,13 +35,6 @@ pub fn start() -> State
     ensures { λ r. ⌜ r ≡ ledTo [] ⌝ }
 {
     State {
-        levels: [no_entry(); MAX_LEVELS],
-        top: Entry {
-            at: 0,
-            stop: BYTES,
-            due: 0,
-            items: BARE,
-        },
         next: Word {
             a: 0,
             b: 0,
@@ -52,11 +43,18 @@ pub fn start() -> State
             low: 0,
             high: 0,
         },
-        used: 0,
         count: 0,
         whole: 1,
+        used: 0,
         deepest: 0,
+        kinds: BARE,
+        top: Entry {
+            at: 0,
+            stop: BYTES,
+            due: 0,
+        },
         closed: 0,
+        levels: [no_entry(); MAX_LEVELS],
     }
 }
 
@@ -138,4 +136,49 @@ pub fn halted(closed: u16, used: u16, mode: Mode) -> bool
         return true;
     }
     LEVELS < used + sized(mode)
+}
+
+// How many bytes a part has, if it is letters of one text to its end and the text goes on: such a part only makes the text's rest shorter. 0 for every
+// other part.
+pub fn letters_only(part: &[u8], next: Word, count: u16, closed: u16) -> u16
+    ensures { λ r. ⌜ (0 < r → LettersOnly (now (part .entry)) next count closed r) ⌝ }
+{
+    if next.code != LETTERS {
+        return 0;
+    }
+    if closed != 0 {
+        return 0;
+    }
+    if 0 < next.more {
+        return 0;
+    }
+    let size = part.len();
+    if next.b as usize <= size {
+        return 0;
+    }
+    if BYTES < count {
+        return 0;
+    }
+    if ((BYTES - count) as usize) < size {
+        return 0;
+    }
+    if leaves::block_at(part, size, 0, size) {
+        return size as u16;
+    }
+    0
+}
+
+// A text after so many of its letters.
+pub fn lettered(next: Word, size: u16) -> Word
+    requires { ⌜ size ≤ next .b ⌝ }
+    ensures { λ r. ⌜ r ≡ lettered next size ⌝ }
+{
+    Word {
+        a: next.a,
+        b: next.b - size,
+        code: LETTERS,
+        more: 0,
+        low: 0,
+        high: 0,
+    }
 }

@@ -20,7 +20,7 @@ use Rattle.parts.specs.declared.FoundName.{FoundName}
 use Rattle.sheets.specs.declared.Checked.{Checked}
 use Rattle.editor.specs.declared.Node.{Node}
 use Rattle.editor.specs.Records.{meant}
-use Rattle.pieces.specs.declared.state.State.{State}
+use Rattle.states.specs.declared.State.{State}
 use Rattle.answers.specs.declared.Answer.{Answer}
 use Rattle.board.specs.declared.PiecesEnd.{PiecesEnd}
 use Rattle.reader.proofs.read.Reads as read

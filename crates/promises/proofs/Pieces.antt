@@ -37,7 +37,7 @@ use Rattle.meaning.specs.Reading.{bad, reading}
 use Rattle.meaning.proofs.Rules.{rule}
 use Rattle.meaning.proofs.Window.{bytes-append}
 use Rattle.reader.specs.declared.Judgement.{Judgement}
-use Rattle.pieces.specs.declared.state.State.{State}
+use Rattle.states.specs.declared.State.{State}
 use Rattle.pieces.specs.Led.{closedOf, ledTo}
 use Rattle.pieces.proofs.Led.{part-can, finish-can}
 use Rattle.answers.specs.declared.Answer.{Answer}

@@ -47,7 +47,7 @@ use Rattle.parts.specs.declared.FoundName.the-variants as name
 use Rattle.parts.specs.Said.{childSaid, nameSaid}
 use Rattle.sheets.specs.declared.Checked.the-variants.{Sound}
 use Rattle.sheets.specs.Said.{checked}
-use Rattle.pieces.specs.declared.state.State.{State}
+use Rattle.states.specs.declared.State.{State}
 use Rattle.answers.specs.declared.Answer.{Answer}
 use Rattle.answers.specs.Answers.{answered, refused}
 use Rattle.board.specs.declared.PiecesEnd.{PiecesEnd}

@@ -2,7 +2,7 @@
 -- a state, the finish of a state gave an end, whatever a state is. To be believed.
 use Prim.Native.Nat.{ℕ}
 use mathlib.Core.List.{List, [], _∷_, _++_}
-use Rattle.pieces.specs.declared.state.State.{State}
+use Rattle.states.specs.declared.State.{State}
 use Rattle.board.specs.declared.PiecesEnd.{PiecesEnd}
 
 -- its state "is at most 512 bytes"

@@ -151,7 +151,6 @@ struct PiecesEntry {
     at: u16,
     stop: u16,
     due: u16,
-    items: u16,
 }
 
 /// What the next byte is to the reader in parts: `shiulbart_pieces_next` of the header.
@@ -173,20 +172,21 @@ struct PiecesNext {
 #[repr(C)]
 #[derive(Clone, Copy, Debug, PartialEq, Eq)]
 pub(crate) struct PiecesState {
-    levels: [PiecesEntry; 16],
-    top: PiecesEntry,
     next: PiecesNext,
-    used: u16,
     count: u16,
     whole: u16,
+    used: u16,
     deepest: u16,
+    kinds: u64,
+    top: PiecesEntry,
     closed: u16,
+    levels: [PiecesEntry; 16],
 }
 
 /// At most 512 bytes are promised. With `repr(C)` the fields are where C has them.
 const _: () = assert!(size_of::<PiecesState>() <= 512);
-const _: () = assert!(size_of::<PiecesState>() == 154 && align_of::<PiecesState>() == 2);
-const _: () = assert!(size_of::<PiecesEnd>() == 172 && align_of::<PiecesEnd>() == 4);
+const _: () = assert!(size_of::<PiecesState>() == 128 && align_of::<PiecesState>() == 8);
+const _: () = assert!(size_of::<PiecesEnd>() == 144 && align_of::<PiecesEnd>() == 8);
 
 impl PiecesState {
     /// How many levels are open.

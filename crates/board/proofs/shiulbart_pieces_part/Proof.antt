@@ -5,35 +5,45 @@ use mathlib.Core.Path.{_≡_, refl, ap, sym, _∙_}
 use native.Mathlib.Omega.{arith}
 use lib.ListN.{length-map}
 use borrow.Author.Needs.{needs}
-use Rattle.pieces.specs.Kept.{runOf}
 use Rattle.turns.specs.Leads.{toDo}
 use Rattle.turns.specs.Moves.{sized}
-use Rattle.pieces.specs.declared.state.State.{State}
-use Rattle.pieces.proofs.Led.{led-room, led-open}
+use Rattle.pieces.proofs.Led.{led-room, led-open, letters-led}
 use Rattle.pieces.proofs.Looping.{Inv, inv-start, stay-less, inv-stay, push-room, push-less, inv-push, pop-some, pop-less, inv-pop, rest-led}
-use Rattle.pieces.proofs.Keeping.{mode-rests}
 use Rattle.board.proofs.shiulbart_pieces_part.Statement.{statement}
 use Rattle.board.proofs.shiulbart_pieces_part.Tie as tie
 
 abbrev Inv-loop : tie.InvT-loop
-Inv-loop part state₀ t₀ n₀ state t n =
-    Inv part (state₀ .levels) (t₀ .mode) (t₀ .top) n₀ (t₀ .count) (t₀ .whole) (t₀ .deepest) (state .levels) (t .mode) (t .top) n (t .count) (t .whole) (t .deepest) (t .i) × (state .closed ≡ state₀ .closed)
+Inv-loop part state₀ size t₀ n₀ kinds₀ state t n kinds = Inv part state₀ (state .levels) kinds (t .mode) (t .top) n (t .count) (t .whole) (t .deepest) (t .i) × (state .closed ≡ state₀ .closed)
 
 abbrev μ-loop : tie.MeasureT-loop
-μ-loop part state₀ t₀ n₀ state t n = toDo part (t .i) (t .mode) n
+μ-loop part state₀ size t₀ n₀ kinds₀ state t n kinds = toDo part (t .i) (t .mode) n
 
--- no part leads to a state that is halted
+-- the part is letters of one text
+lettered-requires : tie.Need-lettered-requires Inv-loop μ-loop
+lettered-requires c κs = let h = c .before .letters-only .ensures (c .if1 .taken) in omega (arith, h .more)
+
+add-state : tie.Need-add-state Inv-loop μ-loop
+add-state c = let h = c .before .before .letters-only .ensures (c .before .if1 .taken) in omega (arith, h .few)
+
 returns : tie.Need-returns Inv-loop μ-loop
 returns c =
-    let h = c .before in let z = ap sized (h .before .mode-of .ensures) in
-    ((λ _. refl), (λ u e. absurd (omega (arith, led-room u _ e, h .halted .ensures .0 (c .if1 .taken) (led-open u _ e)))))
+    let some = c .before .if1 .taken in let h = c .before .before .letters-only .ensures some in (
+      (λ z. absurd (omega (arith, z, h .going))),
+      λ u e. rw (c .lettered .ensures) (letters-led u _ _ _ e some h),
+    )
 
+-- no part leads to a state that is halted
+returns-2 : tie.Need-returns-2 Inv-loop μ-loop
+returns-2 c =
+    let h = c .before in let z = ap sized (h .before .mode-of .ensures) in
+    ((λ _. refl), (λ u e. absurd (omega (arith, led-room u _ e, h .halted .ensures .0 (c .if2 .taken) (led-open u _ e)))))
+
+-- before the first turn: the state is good, and its last field has 16 entries
 loop-holds : tie.Need-loop-holds Inv-loop μ-loop
 loop-holds c =
-    let test = c .before .before .before in let mode = test .before .before in let a = mode .before .before .before in (
-      rw (c .begun .ensures)
-          (inv-start (a .args .part .now) (a .args .t1 .levels) (mode .mode-of .result) (c .before .level-of .result) (a .args .t1 .used) (a .args .t1 .count) (a .args .t1 .whole) (a .args .t1 .deepest)
-          (test .before .halted .ensures .1 (test .if1 .left) .1) (sym (length-map (a .args .t1 .levels) _) ∙ a .good .0 .1 .1 .0 .1 .0 .1) (rw (mode .mode-of .ensures) (mode-rests _))),
+    let test = c .before .before .before in let mode = test .before .before in let a = mode .before .before .before .before .before in let fields = a .good .0 .1 .1 in (
+      rw (c .begun .ensures, c .before .level-of .ensures, mode .mode-of .ensures)
+          (inv-start (a .args .part .now) (a .args .t1) (rw (mode .mode-of .ensures) at (test .before .halted .ensures .1 (test .if2 .left) .1)) (sym (length-map (a .args .t1 .levels) _) ∙ fields .1 .1 .1 .1 .1 .1 .1 .1 .0 .1 .0 .1)),
       refl,
     )
 
@@ -51,20 +61,22 @@ loop-again c = let told = c in let t = told .before .before in let l = t .before
 cast-k : tie.Need-cast-k Inv-loop μ-loop
 cast-k c = let told = c in let t = told .before .before in let l = t .before .before .loop in let h = push-room (l .inv .0) (t .turn .ensures) (told .enum-told2 .given .1) in omega arith
 
-mul-t22 : tie.Need-mul-t22 Inv-loop μ-loop
-mul-t22 c = let told = c .before in let t = told .before .before in let l = t .before .before .loop in let h = push-room (l .inv .0) (t .turn .ensures) (told .enum-told2 .given .1) in omega arith
+mul-t29 : tie.Need-mul-t29 Inv-loop μ-loop
+mul-t29 c = let told = c .before in let t = told .before .before in let l = t .before .before .loop in let h = push-room (l .inv .0) (t .turn .ensures) (told .enum-told2 .given .1) in omega arith
 
 element-set-from-state : tie.Need-element-set-from-state Inv-loop μ-loop
 element-set-from-state c = let told = c .before in let t = told .before .before in let l = t .before .before .loop in push-room (l .inv .0) (t .turn .ensures) (told .enum-told2 .given .1)
 
 add-n : tie.Need-add-n Inv-loop μ-loop
-add-n c = let told = c .before in let t = told .before .before in let l = t .before .before .loop in let h = push-room (l .inv .0) (t .turn .ensures) (told .enum-told2 .given .1) in omega arith
+add-n c = let told = c .before .before in let t = told .before .before in let l = t .before .before .loop in let h = push-room (l .inv .0) (t .turn .ensures) (told .enum-told2 .given .1) in omega arith
 
 loop-less-2 : tie.Need-loop-less-2 Inv-loop μ-loop
-loop-less-2 c = let told = c .before in let t = told .before .before in let l = t .before .before .loop in push-less (l .inv .0) (t .turn .ensures) (told .enum-told2 .given .1)
+loop-less-2 c = let told = c .before .before in let t = told .before .before in let l = t .before .before .loop in push-less (l .inv .0) (t .turn .ensures) (told .enum-told2 .given .1)
 
 loop-again-2 : tie.Need-loop-again-2 Inv-loop μ-loop
-loop-again-2 c = let told = c .before in let t = told .before .before in let l = t .before .before .loop in (rw (c .entry-of .ensures) (inv-push (l .inv .0) (t .turn .ensures) (told .enum-told2 .given .1)), l .inv .1)
+loop-again-2 c =
+    let told = c .before .before in let t = told .before .before in let l = t .before .before .loop in
+    (rw (c .before .entry-of .ensures, c .kinds-with .ensures) (inv-push (l .inv .0) (t .turn .ensures) (told .enum-told2 .given .1)), l .inv .1)
 
 -- the level laid by last is taken up again
 sub-n : tie.Need-sub-n Inv-loop μ-loop
@@ -79,8 +91,8 @@ mul-entry c = let told = c in let t = told .before .before in let l = t .before 
 element-copy-out-entry : tie.Need-element-copy-out-entry Inv-loop μ-loop
 element-copy-out-entry c = let told = c in let t = told .before .before in let l = t .before .before .loop in let h = pop-some (l .inv .0) (t .turn .ensures) (told .enum-told3 .given .1) in omega (arith, l .inv .0 .fair)
 
-mul-t25 : tie.Need-mul-t25 Inv-loop μ-loop
-mul-t25 c = let told = c .before .before in let t = told .before .before in let l = t .before .before .loop in omega (arith, l .inv .0 .fair)
+mul-t32 : tie.Need-mul-t32 Inv-loop μ-loop
+mul-t32 c = let told = c .before .before in let t = told .before .before in let l = t .before .before .loop in omega (arith, l .inv .0 .fair)
 
 element-set-from-state-2 : tie.Need-element-set-from-state-2 Inv-loop μ-loop
 element-set-from-state-2 c = let told = c .before .before in let t = told .before .before in let l = t .before .before .loop in let h = pop-some (l .inv .0) (t .turn .ensures) (told .enum-told3 .given .1) in omega (arith, l .inv .0 .fair)
@@ -89,15 +101,16 @@ loop-less-3 : tie.Need-loop-less-3 Inv-loop μ-loop
 loop-less-3 c = let told = c .before .before .before .before in let t = told .before .before in let l = t .before .before .loop in rw (c .taken-up .ensures) (pop-less (l .inv .0) (t .turn .ensures) (told .enum-told3 .given .1))
 
 loop-again-3 : tie.Need-loop-again-3 Inv-loop μ-loop
-loop-again-3 c = let told = c .before .before .before .before in let t = told .before .before in let l = t .before .before .loop in (rw (c .taken-up .ensures, c .before .level-of2 .ensures, c .before .before .no-entry .ensures) (inv-pop (l .inv .0) (t .turn .ensures) (told .enum-told3 .given .1) _), l .inv .1)
+loop-again-3 c =
+    let told = c .before .before .before .before in let t = told .before .before in let l = t .before .before .loop in
+    (rw (c .taken-up .ensures, c .before .level-of2 .ensures, c .before .before .no-entry .ensures) (inv-pop (l .inv .0) (t .turn .ensures) (told .enum-told3 .given .1) _), l .inv .1)
 
 -- the part is at its end
-returns-2 : tie.Need-returns-2 Inv-loop μ-loop
-returns-2 c =
-    let told = c .before .before .before in let t = told .before .before in let l = t .before .before .loop in let start = t .before .before .before in let test = start .before .before .before in (
-      (λ h. absurd (omega (arith, h, test .before .halted .ensures .1 (test .if1 .left) .0))),
-      λ u e. rw (c .before .entry-of2 .ensures, c .word-of .ensures, l .inv .1 ∙ led-open u _ e)
-          (rest-led (l .inv .0) (t .turn .ensures) (told .enum-told4 .given .1) u (sym (ap runOf e) ∙ rw (start .begun .ensures, start .before .level-of .ensures, test .before .before .mode-of .ensures)) (ap (λ (y : State). y .levels) e) (ap (λ (y : State). y .used) e)),
+returns-3 : tie.Need-returns-3 Inv-loop μ-loop
+returns-3 c =
+    let told = c .before .before .before .before in let t = told .before .before in let l = t .before .before .loop in let test = t .before .before .before .before .before .before in (
+      (λ h. absurd (omega (arith, h, test .before .halted .ensures .1 (test .if2 .left) .0))),
+      λ u e. rw (c .before .before .entry-of2 .ensures, c .before .kinds-with2 .ensures, c .word-of .ensures, l .inv .1 ∙ led-open u _ e) (rest-led (l .inv .0) (t .turn .ensures) (told .enum-told4 .given .1) u e),
     )
 
 pub shiulbart-pieces-part-spec : {M : Type 1} → statement M
@@ -107,8 +120,12 @@ shiulbart-pieces-part-spec =
     Inv-loop
     μ-loop
     (λ c κs. search needs)
-    (λ c κs. search needs)
+    lettered-requires
+    add-state
     returns
+    (λ c κs. search needs)
+    (λ c κs. search needs)
+    returns-2
     (λ c κs. search needs)
     (λ c κs. search needs)
     loop-holds
@@ -119,8 +136,9 @@ shiulbart-pieces-part-spec =
     (λ c. search needs)
     cast-k
     (λ c κs. search needs)
-    mul-t22
+    mul-t29
     element-set-from-state
+    (λ c κs. search needs)
     add-n
     loop-less-2
     loop-again-2
@@ -130,7 +148,7 @@ shiulbart-pieces-part-spec =
     mul-entry
     element-copy-out-entry
     (λ c κs. search needs)
-    mul-t25
+    mul-t32
     element-set-from-state-2
     (λ c κs. search needs)
     (λ c κs. search needs)
@@ -139,4 +157,5 @@ shiulbart-pieces-part-spec =
     (λ c. search needs)
     (λ c κs. search needs)
     (λ c κs. search needs)
-    returns-2)
+    (λ c κs. search needs)
+    returns-3)

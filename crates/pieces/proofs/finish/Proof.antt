@@ -9,8 +9,9 @@ use Rattle.meaning.specs.Limits.{maxBytes}
 use Rattle.meaning.specs.Refusals.{cutShort, inputTooLong}
 use Rattle.reader.specs.declared.Judgement.the-variants.{Refused}
 use Rattle.byte_steps.specs.Automaton.{verdict, finish}
-use Rattle.pieces.specs.Kept.{modeIn, runOf, judgedOut}
-use Rattle.pieces.specs.declared.state.State.{State}
+use Rattle.states.specs.Kept.{modeIn, runOf}
+use Rattle.pieces.specs.Led.{judgedOut}
+use Rattle.states.specs.declared.State.{State}
 use Rattle.pieces.proofs.Led.{finish-led, finish-small}
 use Rattle.pieces.proofs.finish.Statement.{statement}
 use Rattle.pieces.proofs.finish.Tie as tie

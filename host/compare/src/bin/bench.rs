@@ -692,7 +692,7 @@ fn empty_pieces(input: &Input, _: &mut [u8]) -> bool {
 /// As large as the state of the piece reader, whose type is private.
 #[repr(C)]
 #[derive(Clone, Copy)]
-struct State([u16; size_of::<Pieces>() / 2]);
+struct State([u64; size_of::<Pieces>() / 8]);
 
 const _: () = assert!(size_of::<State>() == size_of::<Pieces>());
 const _: () = assert!(align_of::<State>() == align_of::<Pieces>());
@@ -720,7 +720,7 @@ impl Keeper {
 #[inline(never)]
 fn kept_pieces(input: &Input, _: &mut [u8]) -> bool {
     let mut keeper = black_box(Keeper {
-        state: State([0; size_of::<Pieces>() / 2]),
+        state: State([0; size_of::<Pieces>() / 8]),
     });
     for part in input.first.chunks(1) {
         keeper.feed(part);

@@ -5,15 +5,14 @@ use byte_steps::modes::Mode;
 use leaves::limits::MAX_LEVELS;
 use payloads::first::Kind;
 ghost use mathlib.Core.Path.{_≡_};
-ghost use Rattle.pieces.specs.Kept.{entryOf, itemsNumber, itemsOf, kindIn, kindNumber, levelIn, modeHigh, modeIn, noEntry, wordOf, wordWith};
+ghost use Rattle.states.specs.Kept.{entryOf, itemsNumber, itemsOf, kindIn, kindNumber, kindsWith, levelIn, modeHigh, modeIn, noEntry, wordOf, wordWith};
 
-// A level as numbers, so that a host can keep it.
+// A level as numbers, so that a host can keep it. What its items are stands in the state's `kinds`.
 #[repr(C)]
 pub struct Entry {
     pub at: u16,
     pub stop: u16,
     pub due: u16,
-    pub items: u16,
 }
 
 // What the next byte is, as numbers.
@@ -27,28 +26,35 @@ pub struct Word {
     pub high: u8,
 }
 
-// The state between two parts: an entry for each of the 16 levels (the input's own first), the level in hand, what the next byte is, how many entries
-// are in use, how many bytes came, how many the root has, how deep it is, and whether it was finished.
+// The state between two parts: what the next byte is, how many bytes came, how many the root has, how many entries are in use, how deep the root is,
+// what the items of all levels are, the level in hand, whether it was finished, and an entry for each of the 16 levels (the input's own first).
+// It has 128 bytes, which compilers copy without a loop, and what a byte of a text changes stands together: a call copies a state three times.
 #[repr(C)]
 pub struct State {
-    pub levels: [Entry; MAX_LEVELS],
-    pub top: Entry,
     pub next: Word,
-    pub used: u16,
     pub count: u16,
     pub whole: u16,
+    pub used: u16,
     pub deepest: u16,
+    pub kinds: u64,
+    pub top: Entry,
     pub closed: u16,
+    pub levels: [Entry; MAX_LEVELS],
 }
 
-// What items are, as an entry has it.
-pub const PLAIN: u16 = 0;
+// What items are, as kinds have it: a digit for each level, to the base of how many there are, that of the level in hand the lowest.
+pub const PLAIN: u64 = 0;
 
-pub const BARE: u16 = 1;
+pub const BARE: u64 = 1;
 
-pub const FIELDS: u16 = 2;
+pub const FIELDS: u64 = 2;
 
-pub const TEXTS: u16 = 3;
+pub const TEXTS: u64 = 3;
+
+pub const DIGIT: u64 = 4;
+
+// The kinds of 16 levels are below this.
+const KINDS_LAID_BY: u64 = 4294967296;
 
 // What the next byte is, as a word has it. FAULTY stands for every number that is none of the others.
 pub const HEAD: u8 = 0;
@@ -83,12 +89,11 @@ pub fn no_entry() -> Entry
         at: 0,
         stop: 0,
         due: 0,
-        items: 0,
     }
 }
 
 // What items are, as a number, and back.
-fn items_number(items: Items) -> u16
+fn items_number(items: Items) -> u64
     ensures { λ r. ⌜ r ≡ itemsNumber items ⌝ }
 {
     match items {
@@ -99,7 +104,7 @@ fn items_number(items: Items) -> u16
     }
 }
 
-fn items_of(number: u16) -> Items
+fn items_of(number: u64) -> Items
     ensures { λ r. ⌜ r ≡ itemsOf number ⌝ }
 {
     if number == PLAIN {
@@ -114,27 +119,32 @@ fn items_of(number: u16) -> Items
     Items::Texts
 }
 
-// A level as numbers, and back.
+// A level as numbers, and what its items are before the kinds of the levels laid by; and back.
 pub fn entry_of(top: Level) -> Entry
     ensures { λ r. ⌜ r ≡ entryOf top ⌝ }
 {
-    let items = top.items;
     Entry {
         at: top.at,
         stop: top.stop,
         due: top.due,
-        items: items_number(items),
     }
 }
 
-pub fn level_of(entry: Entry) -> Level
-    ensures { λ r. ⌜ r ≡ levelIn entry ⌝ }
+pub fn kinds_with(kinds: u64, top: Level) -> u64
+    ensures { λ r. ⌜ r ≡ kindsWith kinds top ⌝ }
+{
+    let items = top.items;
+    kinds % KINDS_LAID_BY * DIGIT + items_number(items)
+}
+
+pub fn level_of(entry: Entry, kinds: u64) -> Level
+    ensures { λ r. ⌜ r ≡ levelIn entry kinds ⌝ }
 {
     Level {
         at: entry.at,
         stop: entry.stop,
         due: entry.due,
-        items: items_of(entry.items),
+        items: items_of(kinds % DIGIT),
     }
 }
 

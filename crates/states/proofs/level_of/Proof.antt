@@ -1,8 +1,8 @@
--- `pieces::state::level_of` meets its contract.
+-- `states::level_of` meets its contract.
 -- Assumes nothing.
 use borrow.Author.Needs.{needs}
-use Rattle.pieces.proofs.state.level_of.Statement.{statement}
-use Rattle.pieces.proofs.state.level_of.Tie as tie
+use Rattle.states.proofs.level_of.Statement.{statement}
+use Rattle.states.proofs.level_of.Tie as tie
 
 returns : tie.Need-returns
 returns c = rw (c .items-of .ensures)

@@ -1,9 +1,9 @@
--- `pieces::state::mode_high` meets its contract.
+-- `states::mode_high` meets its contract.
 -- Assumes nothing.
 use Rattle.meaning.proofs.Rules.{tests}
-use Rattle.pieces.specs.Kept.{modeHigh}
-use Rattle.pieces.proofs.state.mode_high.Statement.{statement}
-use Rattle.pieces.proofs.state.mode_high.Tie as tie
+use Rattle.states.specs.Kept.{modeHigh}
+use Rattle.states.proofs.mode_high.Statement.{statement}
+use Rattle.states.proofs.mode_high.Tie as tie
 
 returns : tie.Need-returns
 unfolding modeHigh

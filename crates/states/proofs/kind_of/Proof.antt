@@ -1,8 +1,8 @@
--- `pieces::state::kind_of` meets its contract.
+-- `states::kind_of` meets its contract.
 -- Assumes nothing.
 use Rattle.meaning.proofs.Rules.{tests}
-use Rattle.pieces.proofs.state.kind_of.Statement.{statement}
-use Rattle.pieces.proofs.state.kind_of.Tie as tie
+use Rattle.states.proofs.kind_of.Statement.{statement}
+use Rattle.states.proofs.kind_of.Tie as tie
 
 pub kind-of-spec : {M : Type 1} → statement M
 kind-of-spec = tie.close (tie.spec (λ c. search tests) (λ c. search tests) (λ c. search tests) (λ c. search tests) (λ c. search tests) (λ c. search tests))

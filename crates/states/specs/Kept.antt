@@ -1,5 +1,5 @@
 -- NOT TO BE BELIEVED. The state as numbers, and what it stands for.
-use Prim.Native.Nat.{ℕ, zero, suc, _<_}
+use Prim.Native.Nat.{ℕ, zero, suc, _+_, _*_, _/_, _%_}
 use mathlib.Core.List.{List, [], _∷_}
 use lib.ListN.{getD, set, length, replicate}
 use lib.Dec.{eqb}
@@ -7,18 +7,15 @@ use Rattle.meaning.specs.Rules.{_⇒_∣_}
 use Rattle.meaning.specs.Limits.{maxLevels}
 use Rattle.payloads.specs.declared.first.Kind.{Kind}
 use Rattle.payloads.specs.declared.first.Kind.the-variants.{Array, Map, Record, Function, Symbol, Variable}
-use Rattle.reader.specs.Walk.{Out, came, stopped}
-use Rattle.reader.specs.declared.Judgement.{Judgement}
-use Rattle.reader.specs.declared.Judgement.the-variants.{Accepted, Refused}
 use Rattle.byte_steps.specs.declared.modes.Items.{Items}
 use Rattle.byte_steps.specs.declared.modes.Items.the-variants.{Plain, Bare, Fields, Texts}
 use Rattle.byte_steps.specs.declared.modes.Level.{Level}
-use Rattle.pieces.specs.declared.state.Entry.{Entry}
-use Rattle.pieces.specs.declared.state.Word.{Word}
-use Rattle.pieces.specs.declared.state.State.{State}
+use Rattle.states.specs.declared.Entry.{Entry}
+use Rattle.states.specs.declared.Word.{Word}
+use Rattle.states.specs.declared.State.{State}
 use Rattle.byte_steps.specs.declared.modes.Mode.{Mode}
 use Rattle.byte_steps.specs.declared.modes.Mode.the-variants.{Head, SizeLow, SizeHigh, Opening, Count, CountMore, Length, LengthMore, Letters, BlankLow, BlankHigh, Between, Done, Faulty}
-use Rattle.byte_steps.specs.Automaton.{level, run, Run, fed, start}
+use Rattle.byte_steps.specs.Automaton.{level, run, Run}
 
 abbrev pub itemsNumber : Items → ℕ
 itemsNumber Plain = 0
@@ -29,11 +26,20 @@ itemsNumber Texts = 3
 abbrev pub itemsOf : ℕ → Items
 itemsOf n = eqb n 0 ⇒ Plain ∣ λ _. eqb n 1 ⇒ Bare ∣ λ _. eqb n 2 ⇒ Fields ∣ λ _. Texts
 
+-- a level without what its items are, and the digit that says it: one for each level, the last one laid by the lowest
 abbrev pub entryOf : Level → Entry
-entryOf l = record { at = l .at; stop = l .stop; due = l .due; items = itemsNumber (l .items) }
+entryOf l = record { at = l .at; stop = l .stop; due = l .due }
 
-abbrev pub levelIn : Entry → Level
-levelIn e = level (e .at) (e .stop) (e .due) (itemsOf (e .items))
+abbrev pub levelIn : Entry → ℕ → Level
+levelIn e kinds = level (e .at) (e .stop) (e .due) (itemsOf (kinds % 4))
+
+unfoldable pub kindsOf : List Level → ℕ
+kindsOf [] = 0
+kindsOf (l ∷ ls) = kindsOf ls * 4 + itemsNumber (l .items)
+
+-- of a level above at most 16 that are laid by
+abbrev pub kindsWith : ℕ → Level → ℕ
+kindsWith kinds l = kinds % 4294967296 * 4 + itemsNumber (l .items)
 
 abbrev pub kindNumber : Kind → ℕ
 kindNumber Array = 0
@@ -86,7 +92,7 @@ modeIn w =
 
 -- an entry that is not in use
 abbrev pub noEntry : Entry
-noEntry = record { at = 0; stop = 0; due = 0; items = 0 }
+noEntry = record { at = 0; stop = 0; due = 0 }
 
 -- levels laid by, as entries
 unfoldable pub laidOut : List Level → List Entry
@@ -94,19 +100,17 @@ laidOut [] = replicate maxLevels noEntry
 laidOut (l ∷ ls) = set (laidOut ls) (length ls) (entryOf l)
 
 -- the levels laid by, the last one first
-unfoldable pub stackOf : List Entry → ℕ → List Level
-stackOf es zero = []
-stackOf es (suc n) = levelIn (getD es n (record { at = 0; stop = 0; due = 0; items = 0 })) ∷ stackOf es n
+unfoldable pub stackOf : List Entry → ℕ → ℕ → List Level
+stackOf es kinds zero = []
+stackOf es kinds (suc n) = levelIn (getD es n noEntry) kinds ∷ stackOf es (kinds / 4) n
 
 -- what a state stands for
 abbrev pub runOf : State → Run
-runOf s = run (stackOf (s .levels) (s .used)) (levelIn (s .top)) (modeIn (s .next)) (s .count) (s .whole) (s .deepest)
+runOf s = run (stackOf (s .levels) (s .kinds / 4) (s .used)) (levelIn (s .top) (s .kinds)) (modeIn (s .next)) (s .count) (s .whole) (s .deepest)
 
 -- the one state that stands for a run
-abbrev pub stateOf : Run → State
-stateOf r = record { levels = laidOut (r .stack); top = entryOf (r .top); next = wordOf (r .mode); used = length (r .stack); count = r .count; whole = r .whole; deepest = r .deepest; closed = 0 }
+abbrev pub stateWith : List Level → Level → Word → ℕ → ℕ → ℕ → State
+stateWith stack top next count whole deepest = record { next = next; count = count; whole = whole; used = length stack; deepest = deepest; kinds = kindsOf (top ∷ stack); top = entryOf top; closed = 0; levels = laidOut stack }
 
--- the answer
-abbrev pub judgedOut : Out ℕ → Judgement
-judgedOut (came length depth) = Accepted length depth
-judgedOut (stopped number place) = Refused number place
+abbrev pub stateOf : Run → State
+stateOf r = stateWith (r .stack) (r .top) (wordOf (r .mode)) (r .count) (r .whole) (r .deepest)

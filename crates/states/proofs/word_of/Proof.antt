@@ -1,9 +1,9 @@
--- `pieces::state::word_of` meets its contract.
+-- `states::word_of` meets its contract.
 -- Assumes nothing.
 use borrow.Author.Needs.{needs}
-use Rattle.pieces.specs.Kept.{wordOf}
-use Rattle.pieces.proofs.state.word_of.Statement.{statement}
-use Rattle.pieces.proofs.state.word_of.Tie as tie
+use Rattle.states.specs.Kept.{wordOf}
+use Rattle.states.proofs.word_of.Statement.{statement}
+use Rattle.states.proofs.word_of.Tie as tie
 
 returns : tie.Need-returns
 unfolding wordOf

@@ -1,10 +1,10 @@
--- `pieces::state::mode_of` meets its contract.
+-- `states::mode_of` meets its contract.
 -- Assumes nothing.
 use borrow.Author.Needs.{needs}
 use Rattle.meaning.proofs.Rules.{tests}
-use Rattle.pieces.specs.Kept.{modeIn}
-use Rattle.pieces.proofs.state.mode_of.Statement.{statement}
-use Rattle.pieces.proofs.state.mode_of.Tie as tie
+use Rattle.states.specs.Kept.{modeIn}
+use Rattle.states.proofs.mode_of.Statement.{statement}
+use Rattle.states.proofs.mode_of.Tie as tie
 
 returns : tie.Need-returns
 unfolding modeIn
