@@ -1,4 +1,4 @@
-// A reader that is fed with parts and answers at the finish, as the whole reader does for the parts joined: its state, the start and the finish. The
+// A reader that is fed with parts and answers at the finish, as the whole reader does for the parts joined: its start and its finish. The
 // loop over a part stands in the exported call itself (board), where it needs one copy of the state less.
 use byte_steps::modes::BYTES;
 use byte_steps::modes::LEVELS;
