@@ -28,7 +28,7 @@ pub struct Word {
 
 // The state between two parts: what the next byte is, how many bytes came, how many the root has, how many entries are in use, how deep the root is,
 // what the items of all levels are, the level in hand, whether it was finished, and an entry for each of the 16 levels (the input's own first).
-// It has 128 bytes, which compilers copy without a loop, and what a byte of a text changes stands together: a call copies a state three times.
+// It has 128 bytes, which compilers copy without a loop, and what a byte of a text changes stands together: each call copies a state, and so does its caller.
 #[repr(C)]
 pub struct State {
     pub next: Word,
