@@ -1,4 +1,6 @@
 // What a call says, in four numbers of 32 bits: the one place where an enum's case becomes numbers. The board's calls hand these out.
+#![tactic(auto)]
+
 ghost use Rattle.std.specs.Prelude.{◌≡◌, ◌<◌};
 ghost use Rattle.answers.specs.Answers.{answered, refused, Fits, read_put, child_put, name_put, sheet_put, made_put};
 
@@ -10,7 +12,7 @@ use sheets::Checked;
 
 // What every call says. Number 0 is an answer; otherwise number and place are the paper's. A field that a call does not use is 0.
 #[repr(C)]
-#[derive(Drop)]
+#[derive(Clone, Copy)]
 pub struct Answer {
     pub number: u32,
     pub place: u32,

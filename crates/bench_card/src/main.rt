@@ -1,5 +1,7 @@
 // Runs every case of the bench card (01-scope.md, "Bytes on the bench card", "To run" and "Slips a good mechanic makes"), and some of ours, and
 // prints a line for each.
+#![tactic(auto)]
+
 mod inputs;
 mod show;
 

@@ -1,4 +1,6 @@
 // Every call that a host makes, on byte slices and plain numbers. Each trusts nobody to have looked first. include/shiulbart.h is this page for C.
+#![tactic(auto)]
+
 ghost use Rattle.std.specs.Prelude.{ℕ, ◌<◌, ◌≡◌, List, [], ◌++◌, length};
 ghost use Rattle.meaning.specs.Refusals.{sheet_broken};
 ghost use Rattle.meaning.specs.Within.{Bytes};
@@ -167,7 +169,7 @@ pub extern "C" fn shiulbart_pieces_part(mut state: State, part: &[u8]) -> State
 
 // What the finish gives: the state, finished, and the answer.
 #[repr(C)]
-#[derive(Drop)]
+#[derive(Clone, Copy)]
 pub struct PiecesEnd {
     pub state: State,
     pub answer: Answer,

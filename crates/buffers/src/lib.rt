@@ -1,4 +1,6 @@
 // Bytes written into a lent buffer, from a place on, and whether a made shape can be.
+#![tactic(auto)]
+
 ghost use Rattle.std.specs.Prelude.{◌≡◌, ◌∷◌, [], ◌≤◌, ◌<◌, ◌+◌, ◌-◌, length};
 ghost use Rattle.std.proofs.Math.Seq.{slice};
 ghost use Rattle.meaning.specs.Numbers.{two_bytes, leb128};
@@ -9,7 +11,7 @@ use leaves::limits::{MAX_BYTES, MAX_LEVELS};
 use leaves::refusals::{BUFFER_SHORT, MADE_TOO_DEEP, MADE_TOO_LONG};
 
 // What a call that writes into a lent buffer answers: how many bytes it wrote, or a refusal with its number and place.
-#[derive(Drop)]
+#[derive(Clone, Copy)]
 pub enum Made {
     Written { length: usize },
     Refused { number: usize, place: usize },

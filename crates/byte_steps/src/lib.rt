@@ -1,4 +1,6 @@
 // A reader that is fed byte by byte: what one byte leads to, by what it is.
+#![tactic(auto)]
+
 pub mod modes;
 
 ghost use Rattle.std.specs.Prelude.{◌≡◌, ◌+◌, ◌*◌, ◌<◌, ◌≤◌, leb};
@@ -19,7 +21,7 @@ use modes::{Items, LEVELS, Level, Mode, larger, no_primitive, with_due};
 use payloads::first::{First, Kind, PAST_PRIMITIVES, PRIMITIVES, SHORT_BLANKS};
 
 // What a byte leads to.
-#[derive(Drop)]
+#[derive(Clone, Copy)]
 pub struct Took {
     pub mode: Mode,
     pub top: Level,
@@ -27,7 +29,7 @@ pub struct Took {
 }
 
 // What a character's byte leads to: how many more, the first of them from low to high.
-#[derive(Drop)]
+#[derive(Clone, Copy)]
 pub enum Char {
     Wrong,
     Goes { more: u8, low: u8, high: u8 },

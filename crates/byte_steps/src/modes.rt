@@ -11,7 +11,7 @@ pub const LEVELS: u16 = MAX_LEVELS as u16;
 pub const BYTES: u16 = MAX_BYTES as u16;
 
 // What the items of a list are: shapes, all primitives so far (so that a short form exists if it stays so); shapes; texts with shapes; texts.
-#[derive(Drop)]
+#[derive(Clone, Copy)]
 pub enum Items {
     Plain,
     Bare,
@@ -20,7 +20,7 @@ pub enum Items {
 }
 
 // An open payload: the place of its shape, where it ends, how many items are due after the one that is read, and what they are.
-#[derive(Drop)]
+#[derive(Clone, Copy)]
 pub struct Level {
     pub at: u16,
     pub stop: u16,
@@ -29,7 +29,7 @@ pub struct Level {
 }
 
 // What the next byte is. Between and Opening are passed through at once: an item is read to its end; a payload opens.
-#[derive(Drop)]
+#[derive(Clone, Copy)]
 pub enum Mode {
     Head,
     SizeLow {

@@ -1,5 +1,7 @@
 // Judges the encoding on standard input, and prints one line: `ok LENGTH DEPTH` or `no NUMBER PLACE`.
 // It reads one byte more than an encoding may have, so that the reader itself meets what is too long. A read that fails ends the input.
+#![tactic(auto)]
+
 use leaves::limits::MAX_BYTES;
 use libc::{STDIN_FILENO, STDOUT_FILENO};
 use reader::Judgement;

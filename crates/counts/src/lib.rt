@@ -1,4 +1,6 @@
 // How many nodes, links, names and bytes of text the table of a shape has, found by one pass over the accepted bytes.
+#![tactic(auto)]
+
 ghost use Rattle.std.specs.Prelude.{◌≡◌, false, ◌≤◌, ◌<◌, ◌+◌, length};
 ghost use Rattle.meaning.specs.Limits.{max_levels};
 ghost use Rattle.payloads.specs.declared.first.First.TheVariants.{Long};
@@ -13,7 +15,7 @@ use payloads::first::{First, Kind, PACKED, PACKED_MAPS};
 use steps::{HEAD_SIZE, LONG_BLANK};
 
 // So many nodes, links, names and bytes of text.
-#[derive(Drop)]
+#[derive(Clone, Copy)]
 pub struct Counts {
     pub nodes: usize,
     pub links: usize,
@@ -22,7 +24,7 @@ pub struct Counts {
 }
 
 // The sections of a table.
-#[derive(Drop)]
+#[derive(Clone, Copy)]
 pub enum Section {
     Nodes,
     Links,
@@ -31,14 +33,14 @@ pub enum Section {
 }
 
 // What a shape adds to a table, and the place after the shape.
-#[derive(Drop)]
+#[derive(Clone, Copy)]
 pub struct Counted {
     pub next: usize,
     pub counts: Counts,
 }
 
 // What the items of a list add, how long their texts are, and the place after them.
-#[derive(Drop)]
+#[derive(Clone, Copy)]
 pub struct Tally {
     pub next: usize,
     pub counts: Counts,

@@ -1,6 +1,8 @@
 // The editor's front: its nodes are lent as records, the rest of the table as bytes (01-scope.md, "Node table"). The records are put into bytes here,
 // six a node, and go on to the writer of tables. What has a slice of records in its hands is proved by a walk of its own code, and is kept thin: it
 // reads fields and calls. Every decision is made in a function on plain numbers.
+#![tactic(auto)]
+
 ghost use Rattle.std.specs.Prelude.{◌≡◌, ◌≤◌, ◌<◌, ◌+◌, ◌*◌, length, get_or, take};
 ghost use Rattle.meaning.specs.Limits.{max_nodes};
 ghost use Rattle.meaning.specs.Table.{node};
@@ -17,7 +19,7 @@ use tables::NODE_SIZE;
 
 // A node as an editor lends it: its kind, and a and b, as in a table's bytes. The second byte, which is zero there, is left out.
 #[repr(C)]
-#[derive(Drop)]
+#[derive(Clone, Copy)]
 pub struct Node {
     pub kind: u8,
     pub a: u16,

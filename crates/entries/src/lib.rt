@@ -1,4 +1,6 @@
 // What a section of a node table gets of one node: the node, and the entries that it has for the items of its list.
+#![tactic(auto)]
+
 ghost use Rattle.std.specs.Prelude.{◌≡◌, ◌≤◌, ◌<◌, ◌-◌, length};
 ghost use Rattle.meaning.specs.Rules.{◌⇒◌∣◌};
 ghost use Rattle.meaning.specs.Limits.{max_levels};

@@ -1,5 +1,7 @@
 // How long and how deep the shape of each node of a table is, kept for each node: nodes may share children, so a table of a few nodes can mean
 // more bytes than any board has (01-scope.md, "Node table"). Numbers stop growing once they are over their limits.
+#![tactic(auto)]
+
 ghost use Rattle.std.specs.Prelude.{◌≡◌, true, ◌&&◌, ◌≤◌, ◌<◌, ◌+◌, ◌*◌, max, length};
 ghost use Rattle.meaning.specs.Limits.{max_nodes, max_links, max_names};
 ghost use Rattle.tables.specs.Places.{link_place, name_place, link_said, node_said, Aimed, good_by, good_from, good_at, first_bad_node};
@@ -16,7 +18,7 @@ pub const OVER: usize = MAX_BYTES + 1;
 pub const TOO_DEEP: usize = MAX_LEVELS + 1;
 
 // A length and a depth, each up to one over its limit.
-#[derive(Drop)]
+#[derive(Clone, Copy)]
 pub struct Extent {
     pub length: usize,
     pub depth: usize,

@@ -1,4 +1,6 @@
 // What a good node of a table becomes, and the names and counts that are written with it.
+#![tactic(auto)]
+
 ghost use Rattle.std.specs.Prelude.{◌≡◌, ◌≤◌, ◌<◌, ◌+◌, length};
 ghost use Rattle.buffers.specs.Written.{written};
 ghost use Rattle.tables.specs.Places.{node_said};
@@ -43,7 +45,7 @@ pub fn put_name(
 }
 
 // What a node becomes: one byte, a blank, or a list of a kind, its count before it where it has one.
-#[derive(Drop)]
+#[derive(Clone, Copy)]
 pub enum Form {
     Byte {
         byte: u8,

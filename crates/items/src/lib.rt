@@ -1,4 +1,6 @@
 // What lies whole in a part: its items are taken at once, by the whole reader's own walk. Only what a part's end cuts is read byte by byte.
+#![tactic(auto)]
+
 ghost use Rattle.std.specs.Prelude.{◌≡◌, ◌<◌, ◌≤◌, length};
 ghost use Rattle.items.specs.Fed.{ItemFed, RunFed, ShapeFed, WindowEnd, bare, named};
 ghost use Rattle.meaning.specs.Limits.{max_bytes, max_levels};
@@ -35,7 +37,7 @@ pub fn named(items: Items) -> bool
 
 // An item that lies whole in a window: the place after it, and how deep the deepest shape is then. Cut: it does not, or something is wrong in it; the
 // walk has met that at a place.
-#[derive(Drop)]
+#[derive(Clone, Copy)]
 pub enum Item {
     Whole { next: usize, deepest: u16 },
     Cut { fault: usize },
@@ -116,7 +118,7 @@ fn item_at(s: &[u8], end: usize, at: usize, items: Items, n: u16, deepest: u16) 
 
 // Items taken one after the other: where the next stands, how many are due after it, how deep the deepest shape is, and the farthest fault that a walk
 // has met.
-#[derive(Drop)]
+#[derive(Clone, Copy)]
 pub struct Run {
     pub i: usize,
     pub due: u16,

@@ -1,5 +1,7 @@
 // Join (01-scope.md, "Sheets"): each blank of the first sheet with its shape filled by the second, and each blank only in the second as it is
 // there. The joined entries are counted, measured, and then written. A refusal has written nothing.
+#![tactic(auto)]
+
 ghost use Rattle.std.specs.Prelude.{◌≡◌, ◌≤◌, ◌+◌, length};
 ghost use Rattle.meaning.specs.Limits.{max_bytes, max_entries, max_encodings};
 ghost use Rattle.meaning.specs.Encode.{encode};

@@ -1,4 +1,6 @@
 // The leaves of the codec: numbers of two bytes, LEB128 numbers and UTF-8 text. A window is a slice's bytes from a place up to end.
+#![tactic(auto)]
+
 pub mod limits;
 pub mod refusals;
 
@@ -26,7 +28,7 @@ pub fn two_at(s: &[u8], at: usize) -> usize
 }
 
 // A LEB128 number with the place after it, or the number of the refusal.
-#[derive(Drop)]
+#[derive(Clone, Copy)]
 pub enum Leb {
     Number { value: usize, next: usize },
     Fault { number: usize },

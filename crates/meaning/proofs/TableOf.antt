@@ -418,7 +418,7 @@ parameters-handed (parameter s p) T =
 pub names-length : (a : ℕ) (ws : List Text) → length (names_from a ws) ≡ length ws
 unfolding names_from
 names-length a [] = refl
-names-length a (w ∷ ws) = ap suc (names-length _ ws)
+names-length a (w ∷ ws) = ap suc (names-length (a + length w) ws)
 
 -- There are as many links as nodes that they go to,
 pub bare-length : (js : List ℕ) → length (bare_links js) ≡ length js

@@ -1,5 +1,7 @@
 // The joined sheet of two sheets, entry by entry. The numbers of both rise, so the joined entries are met in order by going through both at once: to
 // count them, to measure them, and (crate `joins`) to write them.
+#![tactic(auto)]
+
 ghost use Rattle.std.specs.Prelude.{◌≡◌, ◌≤◌, ◌<◌, ◌+◌, length};
 ghost use Rattle.meaning.specs.Sheet.{join};
 ghost use Rattle.sheets.specs.Index.{sheet_in, Ready};
@@ -10,7 +12,7 @@ use leaves::limits::{MAX_BYTES, MAX_LEVELS};
 use sheets::ENTRY_SIZE;
 
 // The entry that comes next: whether it is the first's, which the second fills, its blank, and how many of each sheet are passed after it.
-#[derive(Drop)]
+#[derive(Clone, Copy)]
 pub struct Turn {
     pub filled: bool,
     pub blank: usize,
@@ -91,7 +93,7 @@ pub fn joined_count(first: &[u8], index: &[u16], second: &[u8], other: &[u16]) -
 }
 
 // The length and the depth of a shape.
-#[derive(Drop)]
+#[derive(Clone, Copy)]
 pub struct Span {
     pub length: usize,
     pub depth: usize,
@@ -128,7 +130,7 @@ fn span_at(
 }
 
 // How the joined entries measure: together so many bytes of encodings, or the first blank whose shape is too deep or too long.
-#[derive(Drop)]
+#[derive(Clone, Copy)]
 pub enum Measured {
     Fitting { bytes: usize },
     Deep { blank: usize },

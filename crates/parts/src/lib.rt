@@ -1,5 +1,7 @@
 // Children and names of an accepted shape, in place (01-scope.md, "Children and names"): the bytes are judged once, and then the root's own list
 // is gone through once; a child is passed over by its head and not read again.
+#![tactic(auto)]
+
 ghost use Rattle.std.specs.Prelude.{◌≡◌};
 ghost use Rattle.meaning.specs.Reading.{reading};
 ghost use Rattle.parts.specs.Said.{child_said, name_said};
@@ -12,7 +14,7 @@ use reader::Judgement;
 use steps::{HEAD_SIZE, Listing, first_at, list_at, past_items, past_name, past_shape};
 
 // Child k: place and length in the parent, or a primitive's number where the parent is packed, or a refusal.
-#[derive(Drop)]
+#[derive(Clone, Copy)]
 pub enum FoundChild {
     Part { place: usize, length: usize },
     Primitive { number: usize },
@@ -20,7 +22,7 @@ pub enum FoundChild {
 }
 
 // Name k: the text's place and length, or a refusal.
-#[derive(Drop)]
+#[derive(Clone, Copy)]
 pub enum FoundName {
     Text { place: usize, length: usize },
     Refused { number: usize, place: usize },

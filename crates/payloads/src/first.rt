@@ -29,7 +29,7 @@ pub const PACKED_MAPS: u8 = 101;
 pub const PAST_PACKED: u8 = 126;
 
 // What a payload holds.
-#[derive(Drop)]
+#[derive(Clone, Copy)]
 pub enum Kind {
     Array,
     Map,
@@ -40,7 +40,7 @@ pub enum Kind {
 }
 
 // A shape of one byte, with its depth, or one with a size and a payload.
-#[derive(Drop)]
+#[derive(Clone, Copy)]
 pub enum First {
     Unassigned,
     Short { levels: usize },

@@ -1,4 +1,6 @@
 // The parts of a payload: its texts, its list of items, and whether it stands in its short form's place.
+#![tactic(auto)]
+
 pub mod first;
 
 ghost use Rattle.std.specs.Prelude.{◌≡◌, ◌≤◌, ◌<◌, ◌+◌, length};
@@ -9,7 +11,7 @@ use leaves::Leb;
 use leaves::refusals::{CUT_SHORT, NOT_UTF8, SIZE_WRONG};
 
 // A text with its length before it.
-#[derive(Drop)]
+#[derive(Clone, Copy)]
 pub enum Text {
     Whole { start: usize, next: usize },
     Bad { number: usize, place: usize },
@@ -89,7 +91,7 @@ pub fn label_at(s: &[u8], end: usize, at: usize, kind: Kind) -> Text
 }
 
 // The list of a payload: where the payload ends, where the list starts, and how many items it has.
-#[derive(Drop)]
+#[derive(Clone, Copy)]
 pub enum Opening {
     Items {
         stop: usize,

@@ -1,5 +1,7 @@
 // A reader that is fed with parts and answers at the finish, as the whole reader does for the parts joined: its start and its finish. The
 // loop over a part stands in the exported call itself (board), where it needs one copy of the state less.
+#![tactic(auto)]
+
 ghost use Rattle.std.specs.Prelude.{◌≡◌, true, false, ℕ, ◌+◌, ◌<◌, ◌≤◌, List, []};
 ghost use Rattle.meaning.specs.Limits.{max_levels};
 ghost use Rattle.turns.specs.Moves.{sized};
@@ -45,7 +47,7 @@ pub fn start() -> State
 }
 
 // The answer, and the state that repeats it.
-#[derive(Drop)]
+#[derive(Clone, Copy)]
 pub struct Finished {
     pub state: State,
     pub answer: Judgement,

@@ -1,1 +1,2 @@
 // What the boards rely on, stated over the public calls and proved (proofs/). No code.
+#![tactic(auto)]

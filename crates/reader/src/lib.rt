@@ -1,4 +1,6 @@
 // The reader of encoded shapes: judges any bytes, in place, by one walk from the left.
+#![tactic(auto)]
+
 ghost use Rattle.std.specs.Prelude.{◌≡◌, ◌≤◌, ◌+◌, max, length};
 ghost use Rattle.meaning.specs.Limits.{max_levels};
 ghost use Rattle.meaning.specs.Reading.{reading};
@@ -12,14 +14,14 @@ use payloads::first::{First, Kind};
 use payloads::{Opening, Text};
 
 // How bytes are judged: an accepted encoding with its length and depth, or a refusal with its number and place.
-#[derive(Drop)]
+#[derive(Clone, Copy)]
 pub enum Judgement {
     Accepted { length: usize, depth: usize },
     Refused { number: usize, place: usize },
 }
 
 // What the walk over a shape or a list of items finds: the place after it and its depth, or a refusal.
-#[derive(Drop)]
+#[derive(Clone, Copy)]
 pub enum Walked {
     Shape { next: usize, depth: usize },
     Refused { number: usize, place: usize },
@@ -52,7 +54,7 @@ fn closing_at(s: &[u8], at: usize, stop: usize, kind: Kind, next: usize, depth: 
 }
 
 // What the head of a shape says: a refusal, a shape of one byte with its depth, or a kind with a payload.
-#[derive(Drop)]
+#[derive(Clone, Copy)]
 pub enum Head {
     Stop { number: usize, place: usize },
     One { depth: usize },
@@ -124,7 +126,7 @@ fn larger(a: usize, b: usize) -> usize
 }
 
 // A list that is read in part: where the next item stands, how many are due, and how deep those before are.
-#[derive(Drop)]
+#[derive(Clone, Copy)]
 pub struct Run {
     pub at: usize,
     pub due: usize,

@@ -1,4 +1,6 @@
 // Sheets, in place (01-scope.md, "Sheets"): the check of a fill sheet, and what an accepted one has for a blank.
+#![tactic(auto)]
+
 ghost use Rattle.std.specs.Prelude.{◌≡◌, ◌≤◌, ◌<◌, ◌+◌, length};
 ghost use Rattle.meaning.specs.Limits.{max_entries};
 ghost use Rattle.meaning.specs.Refusals.{sheet_broken};
@@ -21,14 +23,14 @@ pub const INDEX_SIZE: usize = 64;
 pub const DEPTHS: usize = 32;
 
 // How a sheet is judged: sound, with how many entries and how many bytes of encodings it has, or broken at a place.
-#[derive(Drop)]
+#[derive(Clone, Copy)]
 pub enum Checked {
     Sound { entries: usize, bytes: usize },
     Broken { place: usize },
 }
 
 // How the entries of a sheet stand: each in order, with what their lengths say together, or one wrong.
-#[derive(Drop)]
+#[derive(Clone, Copy)]
 pub enum Entries {
     Rising { sum: usize },
     Wrong { entry: usize },
@@ -153,7 +155,7 @@ pub fn check(sheet: &[u8]) -> Checked
 }
 
 // Where the encoding of an entry stands, from start to end, and how deep its shape is.
-#[derive(Drop)]
+#[derive(Clone, Copy)]
 pub struct Part {
     pub start: usize,
     pub end: usize,
@@ -175,7 +177,7 @@ pub fn entry_at(sheet: &[u8], index: &[u16], i: usize) -> Part
 }
 
 // What a sheet has for a blank: nothing, or an encoding, which stands from start to end, and how deep its shape is.
-#[derive(Drop)]
+#[derive(Clone, Copy)]
 pub enum Entry {
     Absent,
     Present {

@@ -1,4 +1,6 @@
 // What a shape measures once its blanks are filled (01-scope.md, "Sheets"): found by one pass over the accepted bytes, before anything is written.
+#![tactic(auto)]
+
 ghost use Rattle.std.specs.Prelude.{◌≡◌, false, ◌&&◌, ◌≤◌, ◌<◌, ◌+◌, max, length};
 ghost use Rattle.meaning.specs.Limits.{max_bytes, max_levels};
 ghost use Rattle.meaning.specs.Shape.{blank};
@@ -16,7 +18,7 @@ use sheets::Entry;
 use steps::{HEAD_SIZE, LONG_BLANK};
 
 // The length and the depth of a shape, and whether it is a primitive.
-#[derive(Drop)]
+#[derive(Clone, Copy)]
 pub struct Size {
     pub length: usize,
     pub depth: usize,
@@ -24,14 +26,14 @@ pub struct Size {
 }
 
 // A shape's size, and the place after it in the template.
-#[derive(Drop)]
+#[derive(Clone, Copy)]
 pub struct Sized {
     pub next: usize,
     pub size: Size,
 }
 
 // The items of a list so far: their bytes, the depth of the deepest, and whether all are primitives.
-#[derive(Drop)]
+#[derive(Clone, Copy)]
 pub struct Sum {
     pub length: usize,
     pub depth: usize,
@@ -39,7 +41,7 @@ pub struct Sum {
 }
 
 // What the items of a list are together, and the place after them in the template.
-#[derive(Drop)]
+#[derive(Clone, Copy)]
 pub struct Summed {
     pub next: usize,
     pub sum: Sum,

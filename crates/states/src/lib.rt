@@ -1,4 +1,6 @@
 // The state of a reader that is fed, as numbers, so that a host can keep it; and back.
+#![tactic(auto)]
+
 ghost use Rattle.std.specs.Prelude.{◌≡◌};
 ghost use Rattle.states.specs.Kept.{entry_of, items_number, items_of, kind_in, kind_number, kinds_with, level_in, mode_high, mode_in, no_entry, word_of, word_with};
 
@@ -8,7 +10,7 @@ use payloads::first::Kind;
 
 // A level as numbers, so that a host can keep it. What its items are stands in the state's `kinds`.
 #[repr(C)]
-#[derive(Drop)]
+#[derive(Clone, Copy)]
 pub struct Entry {
     pub at: u16,
     pub stop: u16,
@@ -17,7 +19,7 @@ pub struct Entry {
 
 // What the next byte is, as numbers.
 #[repr(C)]
-#[derive(Drop)]
+#[derive(Clone, Copy)]
 pub struct Word {
     pub a: u16,
     pub b: u16,
@@ -31,7 +33,7 @@ pub struct Word {
 // what the items of all levels are, the level in hand, whether it was finished, and an entry for each of the 16 levels (the input's own first).
 // It has 128 bytes, which compilers copy without a loop, and what a byte of a text changes stands together: each call copies a state, and so does its caller.
 #[repr(C)]
-#[derive(Drop)]
+#[derive(Clone, Copy)]
 pub struct State {
     pub next: Word,
     pub count: u16,

@@ -1,4 +1,6 @@
 // Steps over an accepted encoding, in place: a shape is passed over by its head and not read again. They stay inside the bytes whatever these are.
+#![tactic(auto)]
+
 pub mod put;
 
 ghost use Rattle.std.specs.Prelude.{◌≡◌, ◌≤◌, max, length};
@@ -109,7 +111,7 @@ pub fn past_items(s: &[u8], kind: Kind, k: u64, from: usize) -> usize
 }
 
 // The list of a payload: where it starts and how many items it has.
-#[derive(Drop)]
+#[derive(Clone, Copy)]
 pub struct Listing {
     pub from: usize,
     pub count: usize,

@@ -1,5 +1,7 @@
 // The checks of a node table, in place (01-scope.md, "Node table"). The bytes of the nodes and the rest, from the links' count on, come as two
 // slices, so that a caller may have the nodes elsewhere.
+#![tactic(auto)]
+
 ghost use Rattle.std.specs.Prelude.{◌≡◌, ◌≤◌, ◌<◌, ◌+◌, ◌*◌, length};
 ghost use Rattle.meaning.specs.Limits.{max_nodes, max_links, max_names, max_text};
 ghost use Rattle.meaning.specs.TableReading.{node_size, link_size, name_size};
@@ -31,7 +33,7 @@ pub const SYMBOL: u8 = 9;
 pub const VARIABLE: u8 = 10;
 
 // A section: how many entries it has, and the place after them; or it is broken.
-#[derive(Drop)]
+#[derive(Clone, Copy)]
 pub enum Section {
     Whole { count: usize, next: usize },
     Broken,
@@ -59,7 +61,7 @@ fn section_at(rest: &[u8], at: usize, most: usize, size: usize) -> Section
 }
 
 // How many links, names and bytes of text a table has, or the place in the rest where a section is broken or bytes are left over.
-#[derive(Drop)]
+#[derive(Clone, Copy)]
 pub enum Layout {
     Laid {
         links: usize,
@@ -106,7 +108,7 @@ pub fn layout_of(rest: &[u8]) -> Layout
 }
 
 // A node, its second byte too.
-#[derive(Drop)]
+#[derive(Clone, Copy)]
 pub struct Node {
     pub kind: u8,
     pub second: u8,
@@ -130,7 +132,7 @@ pub fn node_at(nodes: &[u8], i: usize) -> Node
 }
 
 // A link: its target, and its name.
-#[derive(Drop)]
+#[derive(Clone, Copy)]
 pub struct Link {
     pub target: usize,
     pub name: usize,
@@ -159,7 +161,7 @@ pub fn target_kind(nodes: &[u8], rest: &[u8], x: usize) -> u8
 }
 
 // A name: where it starts in the text, and how long it is.
-#[derive(Drop)]
+#[derive(Clone, Copy)]
 pub struct Name {
     pub start: usize,
     pub size: usize,
@@ -179,7 +181,7 @@ pub fn name_at(rest: &[u8], links: usize, k: usize) -> Name
 }
 
 // How the links of a node are judged: without names, with names, or as a Symbol's texts.
-#[derive(Drop)]
+#[derive(Clone, Copy)]
 pub enum Way {
     Bare,
     Named,

@@ -1,4 +1,6 @@
 // A turn of the loop over a part's bytes: some of them are taken, or something is done without a byte. A turn goes by the mode once.
+#![tactic(auto)]
+
 pub mod moves;
 
 ghost use Rattle.std.specs.Prelude.{◌≡◌, true, false, ◌+◌, ◌-◌, ◌<◌, ◌≤◌, length};
@@ -18,7 +20,7 @@ use moves::{Act, Moved, between_moved, opening_moved};
 
 // What a turn leads to: what the reader is in the middle of then, the place of the next byte, the farthest fault that a walk has met, and what becomes
 // of the levels laid by.
-#[derive(Drop)]
+#[derive(Clone, Copy)]
 pub struct Turned {
     pub mode: Mode,
     pub top: Level,

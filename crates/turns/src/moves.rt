@@ -12,7 +12,7 @@ use payloads::first::Kind;
 
 // What becomes of the levels laid by: they stay; the level in hand is laid by; the one laid by last is taken up again. Rest: they stay, and the
 // part is at its end.
-#[derive(Drop)]
+#[derive(Clone, Copy)]
 pub enum Act {
     Rest,
     Stay,
@@ -21,7 +21,7 @@ pub enum Act {
 }
 
 // What a step without a byte leads to.
-#[derive(Drop)]
+#[derive(Clone, Copy)]
 pub struct Moved {
     pub mode: Mode,
     pub top: Level,

@@ -1,5 +1,7 @@
 // The way back: from an encoding to the node table of its shape (01-scope.md, "Node table"). Nothing is shared: children first, then the node. The
 // entries are counted first, so a refusal has written nothing; then each section is written by a pass of its own.
+#![tactic(auto)]
+
 ghost use Rattle.std.specs.Prelude.{◌≡◌, false, ◌≤◌, ◌<◌, length, ◌++◌};
 ghost use Rattle.meaning.specs.Limits.{max_levels};
 ghost use Rattle.meaning.specs.Numbers.{two_bytes};
@@ -133,7 +135,7 @@ fn put_plain(
 }
 
 // Where a shape was written: the place after it in the encoding, the place after its entries in the table, and how many entries are there then.
-#[derive(Drop)]
+#[derive(Clone, Copy)]
 pub struct Put {
     pub next: usize,
     pub to: usize,
@@ -141,7 +143,7 @@ pub struct Put {
 }
 
 // So of the shapes of a list's items, and how long the items' texts are.
-#[derive(Drop)]
+#[derive(Clone, Copy)]
 pub struct PutItems {
     pub next: usize,
     pub to: usize,

@@ -1,5 +1,7 @@
 // The writer: from a node table to the encoding of the shape that it means (01-scope.md, "Node table"). The checks come first, then how long and
 // how deep the shape is, found without walking what nodes share; only what is known to fit is written.
+#![tactic(auto)]
+
 ghost use Rattle.std.specs.Prelude.{◌≡◌, ◌≤◌, ◌<◌, ◌+◌, ◌*◌, ◌-◌, ◌/◌, length};
 ghost use Rattle.meaning.specs.Limits.{max_nodes};
 ghost use Rattle.meaning.specs.TableReading.{node_size};

@@ -1,5 +1,7 @@
 // Writes a filled shape into a lent buffer (01-scope.md, "Sheets") by one pass over the accepted bytes. It is measured before, so it is known to
 // fit. A payload is written before its head, which says how long it is; what becomes one byte is found out before anything of it is written.
+#![tactic(auto)]
+
 ghost use Rattle.std.specs.Prelude.{◌≡◌, false, ◌∷◌, [], ◌≤◌, ◌<◌, ◌+◌, length};
 ghost use Rattle.meaning.specs.Limits.{max_levels};
 ghost use Rattle.meaning.specs.Encode.{encode};
@@ -22,7 +24,7 @@ use steps::put::{put_blank, put_head};
 use steps::{HEAD_SIZE, LONG_BLANK};
 
 // The next place of the template, and of the buffer.
-#[derive(Drop)]
+#[derive(Clone, Copy)]
 pub struct Places {
     pub next: usize,
     pub to: usize,
@@ -98,7 +100,7 @@ fn blank_prim(sheet: &[u8], index: &[u16], n: usize) -> usize
 }
 
 // The primitive that a shape becomes, and the place after it.
-#[derive(Drop)]
+#[derive(Clone, Copy)]
 pub struct Peek {
     pub next: usize,
     pub code: usize,

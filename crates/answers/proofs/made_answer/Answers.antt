@@ -1,0 +1,15 @@
+-- `answers::made_answer` meets its contract: the numbers of the case at hand fit, and are handed on.
+use borrow.Author.Rules.{rules}
+use Rattle.answers.proofs.made_answer.Goals as goal
+
+pub refusal_of-requires : goal.refusal_of-requires
+refusal_of-requires c = let fits = rw c.in-Refused.is at c.requires in search rules
+
+pub answer_of-requires : goal.answer_of-requires
+answer_of-requires c = let fits = rw c.in-Written.is at c.requires in search rules
+
+pub returns-in-Refused : goal.returns-in-Refused
+returns-in-Refused c = rw c.in-Refused.is c.refusal_of.ensures
+
+pub returns-in-Written : goal.returns-in-Written
+returns-in-Written c = rw c.in-Written.is c.answer_of.ensures

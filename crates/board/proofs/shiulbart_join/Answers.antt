@@ -1,0 +1,21 @@
+-- `board::shiulbart_join` meets its contract: what is said of a joining fits, and is what the call says; the buffer is as the call below left it.
+use borrow.Author.Rules.{rules}
+use native.Mathlib.Omega.{arith}
+use mathlib.Core.Path.{◌∙◌, ap}
+use Rattle.meaning.specs.Answers.{join_answer}
+use Rattle.meaning.proofs.Window.{bytes-by-index}
+use Rattle.meaning.proofs.Bounds.{join-small}
+use Rattle.answers.specs.Answers.{made_put}
+use Rattle.answers.proofs.Small.{made-fits}
+use Rattle.board.proofs.shiulbart_join.Goals as goal
+
+pub made_answer-requires : goal.made_answer-requires
+made_answer-requires c = let a = c.args in let f = bytes-by-index a.first.now (λ i. omega (arith, c.type_inv.first i)) in
+    let s = bytes-by-index a.second.now (λ i. omega (arith, c.type_inv.second i)) in
+    rw c.join.ensures.is (made-fits (join_answer _ _ _) (join-small _ _ _ (search (f, s)) (search (f, s))))
+
+pub returns-clause-is : goal.returns-clause-is
+returns-clause-is c = c.made_answer.ensures ∙ ap made_put c.join.ensures.is
+
+pub returns-clause-buffer : goal.returns-clause-buffer
+returns-clause-buffer c = c.join.ensures.buffer

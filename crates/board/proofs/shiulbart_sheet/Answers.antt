@@ -1,0 +1,14 @@
+-- `board::shiulbart_sheet` meets its contract: what is said of a sheet fits, and is what the call says.
+use borrow.Author.Rules.{rules}
+use native.Mathlib.Omega.{arith}
+use mathlib.Core.Path.{◌∙◌, ap}
+use Rattle.meaning.proofs.Window.{bytes-by-index}
+use Rattle.answers.specs.Answers.{sheet_put}
+use Rattle.answers.proofs.Small.{exported-sheet}
+use Rattle.board.proofs.shiulbart_sheet.Goals as goal
+
+pub sheet_answer-requires : goal.sheet_answer-requires
+sheet_answer-requires c = let w = c.args.sheet.now in rw c.check.ensures (exported-sheet w (bytes-by-index w (λ i. omega (arith, c.type_inv.sheet i)))).fits
+
+pub returns : goal.returns
+returns c = let w = c.args.sheet.now in c.sheet_answer.ensures ∙ ap sheet_put c.check.ensures ∙ (exported-sheet w (bytes-by-index w (λ i. omega (arith, c.type_inv.sheet i)))).is

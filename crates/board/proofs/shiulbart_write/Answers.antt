@@ -1,0 +1,17 @@
+-- `board::shiulbart_write` meets its contract: what is said of what is written fits, and is what the call says; the buffer is as the call below left it.
+use borrow.Author.Rules.{rules}
+use mathlib.Core.Path.{◌∙◌, ap}
+use Rattle.meaning.specs.Answers.{write_answer}
+use Rattle.meaning.proofs.TableAnswers.{write-small}
+use Rattle.answers.specs.Answers.{made_put}
+use Rattle.answers.proofs.Small.{made-fits}
+use Rattle.board.proofs.shiulbart_write.Goals as goal
+
+pub made_answer-requires : goal.made_answer-requires
+made_answer-requires c = rw c.write.ensures.is (made-fits (write_answer _ _) (write-small _ _))
+
+pub returns-clause-is : goal.returns-clause-is
+returns-clause-is c = c.made_answer.ensures ∙ ap made_put c.write.ensures.is
+
+pub returns-clause-buffer : goal.returns-clause-buffer
+returns-clause-buffer c = c.write.ensures.buffer

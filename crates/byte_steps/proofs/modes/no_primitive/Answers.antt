@@ -1,0 +1,6 @@
+-- `byte_steps::modes::no_primitive` meets its contract.
+use borrow.Author.Rules.{rules}
+use Rattle.byte_steps.proofs.modes.no_primitive.Goals as goal
+
+pub returns : goal.returns
+returns c = rw c.unplain.ensures

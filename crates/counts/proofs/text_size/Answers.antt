@@ -1,0 +1,7 @@
+-- `counts::text_size` meets its contract.
+use borrow.Author.Rules.{rules}
+use lib.ListN.{length-drop}
+use Rattle.counts.proofs.text_size.Goals as goal
+
+pub returns : goal.returns
+returns c = rw (length-drop, c.text_from.ensures.is)

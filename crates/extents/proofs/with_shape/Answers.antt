@@ -1,0 +1,6 @@
+-- `extents::with_shape` meets its contract.
+use borrow.Author.Rules.{rules}
+use Rattle.extents.proofs.with_shape.Goals as goal
+
+pub returns : goal.returns
+returns c = rw (c.add.ensures, c.larger.ensures)

@@ -1,0 +1,6 @@
+-- `tables::node_at` meets its contract.
+use borrow.Author.Rules.{rules}
+use Rattle.tables.proofs.node_at.Goals as goal
+
+pub returns-clause-is : goal.returns-clause-is
+returns-clause-is c = rw (c.two_at.ensures.is, c.two_at-2.ensures.is)

@@ -1,0 +1,6 @@
+-- `turns::skipped` meets its contract.
+use borrow.Author.Rules.{rules}
+use Rattle.turns.proofs.skipped.Goals as goal
+
+pub returns : goal.returns
+returns c = rw (c.rest.ensures, c.count_on.ensures)
