@@ -4,14 +4,14 @@ use Rattle.meaning.proofs.Rules.{tests}
 use Rattle.steps.specs.Steps.{past_long}
 use Rattle.steps.proofs.past_long.Goals as goal
 
-pub returns-then-s-at-lt-HEAD_SIZE : goal.returns-then-s-at-lt-HEAD_SIZE
+pub returns-then-s-at-lt-HEAD_SIZE-clause-is : goal.returns-then-s-at-lt-HEAD_SIZE-clause-is
 unfolding past_long
-returns-then-s-at-lt-HEAD_SIZE c = (search tests, search rules)
+returns-then-s-at-lt-HEAD_SIZE-clause-is c = search tests
 
-pub returns-then-s-at : goal.returns-then-s-at
+pub returns-then-s-at-clause-is : goal.returns-then-s-at-clause-is
 unfolding past_long
-returns-then-s-at c = rw (← c.two_at-size.ensures.is) (search tests, search rules)
+returns-then-s-at-clause-is c = rw (← c.two_at-size.ensures.is) (search tests)
 
-pub returns : goal.returns
+pub returns-clause-is : goal.returns-clause-is
 unfolding past_long
-returns c = rw (← c.two_at-size.ensures.is) (search tests, search rules)
+returns-clause-is c = rw (← c.two_at-size.ensures.is) (search tests)

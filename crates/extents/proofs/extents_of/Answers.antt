@@ -1,0 +1,41 @@
+-- `extents::extents_of` meets its contract. The invariant: of each node before the next its extent is held.
+use borrow.Author.Rules.{rules}
+use native.Mathlib.Omega.{arith}
+use mathlib.Core.Path.{◌≡◌}
+use Prim.Native.Nat.{◌-◌, ◌≤◌}
+use lib.ListN.{length, length-set}
+use Rattle.meaning.specs.Limits.{max_nodes}
+use Rattle.tables.specs.Places.{node_said}
+use Rattle.extents.specs.Extents.{over, too_deep, held_in, ExtentsTo}
+use Rattle.extents.proofs.Sound.{every-good}
+use Rattle.extents.proofs.Held.{node-small, extents-next}
+use Rattle.extents.proofs.extents_of.Goals as goal
+
+pub loop-i-init : goal.loop-i-init
+loop-i-init c = let p = c.requires in (omega arith, p.6, p.7, λ j h. absurd (omega arith))
+
+pub extent_of-extent-requires : goal.extent_of-extent-requires
+extent_of-extent-requires c = let k = l.before.before.before.before.before in let a = k.args in let p = k.requires in
+    (p.2, p.3, p.4, omega arith, omega arith, rw c.Node-at.ensures.0 (every-good a.nodes.now a.rest.now a.links a.names a.count p.5 c.loop.i c.loop-test.true), omega arith, omega arith)
+
+pub overflow_cast-lengths : goal.overflow_cast-lengths
+overflow_cast-lengths c = let a = l.before.before.before.before.before.args in let s : c.extent_of-extent.result.length ≤ over = rw c.extent_of-extent.ensures (node-small (held_in c.loop.lengths c.loop.depths) a.nodes.now a.rest.now a.links (node_said c.Node-at.result)).0 in
+    omega (arith, s)
+
+pub overflow_cast-depths : goal.overflow_cast-depths
+overflow_cast-depths c = let a = l.before.before.before.before.before.args in let s : c.extent_of-extent.result.depth ≤ too_deep = rw c.extent_of-extent.ensures (node-small (held_in c.loop.lengths c.loop.depths) a.nodes.now a.rest.now a.links (node_said c.Node-at.result)).1 in
+    omega (arith, s)
+
+pub loop-i-smaller : goal.loop-i-smaller
+loop-i-smaller c = omega arith
+
+pub loop-i-preserved : goal.loop-i-preserved
+loop-i-preserved c = let k = l.before.before.before.before.before in let a = k.args in (
+      omega arith,
+      simp length-set c.loop.invariant.1,
+      simp length-set c.loop.invariant.2,
+      extents-next a.nodes.now a.rest.now a.links a.names c.loop.lengths c.loop.depths c.loop.i c.extent_of-extent.result (omega arith) (omega arith) (λ j h. every-good a.nodes.now a.rest.now a.links a.names a.count k.requires.5 j (omega arith)) c.Node-at.ensures.0 c.extent_of-extent.ensures c.loop.invariant.3,
+    )
+
+pub returns : goal.returns
+returns c = λ j h. c.loop-i.invariant.3 j (omega arith)

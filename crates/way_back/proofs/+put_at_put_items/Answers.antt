@@ -1,0 +1,154 @@
+-- The proof of the cycle of calls {put_at, put_items}. Levels left and items left fall as a pair: levels * 65,536 + items, at each call. put_items
+-- writes the shapes of its list in a loop, of which each turn leaves one item less; put_at writes a list's items, and then its node.
+use borrow.Author.Rules.{rules}
+use native.Mathlib.Omega.{arith}
+use Prim.Native.Nat.{ℕ, ◌<◌, ◌≤◌, ◌+◌, ◌*◌}
+use mathlib.Core.Path.{refl, sym, ◌∙◌}
+use lib.ListN.{length}
+use Rattle.steps.specs.Pass.{pass_shape}
+use Rattle.steps.proofs.Passing.{shape-none, shape-short, list-deep, list-cut}
+use Rattle.counts.specs.Pieces.{pieces}
+use Rattle.counts.proofs.Linked.{shape-linked}
+use Rattle.counts.proofs.Counting.{IsList, is-list}
+use Rattle.way_back.proofs.Putting.{put-none, Turn, turn-first, turn-few, turn-room, turn-text, turn_on, turn_end, list-few, own-few, items-room, own_room, sum-few, list_put}
+use Rattle.way_back.proofs.+put_at_put_items.Goals as goal
+
+-- levels left and items left fall as a pair: there are fewer than 65,536 items
+abbrev μ-put-at : Measures 2 put-at-kinds.ps ℕ
+μ-put-at κs a = a.1.1.1.0 * 65536
+
+abbrev μ-put-items : Measures 2 put-items-kinds.ps ℕ
+μ-put-items κs a = a.1.1.1.0 * 65536 + a.1.1.1.1.1.0
+
+abbrev put-at-at : ℕ → In 2 put-at-kinds.ps
+put-at-at t = and 2 put-at-kinds.ps (is 2 put-at-kinds.ps μ-put-at t) put-at.Pre
+
+abbrev put-at-below : ℕ → In 2 put-at-kinds.ps
+put-at-below t = and 2 put-at-kinds.ps (falls 2 put-at-kinds.ps ◌<◌ μ-put-at t) put-at.Pre
+
+abbrev put-items-at : ℕ → In 2 put-items-kinds.ps
+put-items-at t = and 2 put-items-kinds.ps (is 2 put-items-kinds.ps μ-put-items t) put-items.Pre
+
+abbrev put-items-below : ℕ → In 2 put-items-kinds.ps
+put-items-below t =
+    and 2 put-items-kinds.ps (falls 2 put-items-kinds.ps ◌<◌ μ-put-items t) put-items.Pre
+
+-- a list was found, and its items start inside
+found : (l : put-at-lts.After-list-at (put-at-calls t) (put-at-at t) put-at.Post)
+    → let g = l.before.before.before.before.before.before in let q = g.before.before.before.before.before in IsList q.args.left q.args.s.now q.args.at g.kind.given.0.0 l.list_at.result
+found l =
+    let x = l.before in let e = x.before in let b = e.before in let k = b.before in let g = k.before.before in let f = g.before.before in
+    is-list _ _ _ _ _ (sym f.first-at.ensures.0 ∙ g.kind.given.1) (sym k.shaped-kind.ensures ∙ b.if1.true) (omega (arith, e.if2.false)) x.if3.false l.list_at.ensures.0
+
+inside : (l : put-at-lts.After-list-at (put-at-calls t) (put-at-at t) put-at.Post) → l.list_at.result.from ≤ length l.before.before.before.before.before.before.before.before.before.before.before.args.s.now
+inside l = omega (arith, l.list_at.ensures.1.1, l.before.if3.false)
+
+-- where the name ends is inside
+named-inside : (n : put-items-lts.After-past-name (put-items-calls t) (put-items-at t) put-items.Post put-items-Inv-loop put-items-μ-loop) → n.past-name.result ≤ length n.before.before.before.before.before.args.s.now
+named-inside n = omega (arith, n.past-name.ensures.1.1, n.before.before.loop.invariant.inside)
+
+-- In the answers q is the start, f the first byte read, m and g what it says, k tells the kind, b, e and x are the tests before the list, l is its
+-- listing, v its items written, u its node written, w a shape of one byte or with another payload written, and n what was counted; in put-items' o is
+-- the loop, n the name passed over, p its text measured and v the shape written.
+pub put_at-bounds-s-at : goal.put_at-bounds-s-at
+put_at-bounds-s-at t c = let h = rw c.in-Short.is at c.first_at.ensures.inside in search rules
+
+pub put_at-put_short-end-requires : goal.put_at-put_short-end-requires
+put_at-put_short-end-requires t c = let z = shape-short pieces c.args.left c.args.s.now c.args.at (sym c.first_at.ensures.is ∙ c.in-Short.is) in
+    (rw z at c.requires.3, rw z at c.requires.4)
+
+pub put_at-plus-requires : goal.put_at-plus-requires
+put_at-plus-requires t c = let z = shape-short pieces c.args.left c.args.s.now c.args.at (sym c.first_at.ensures.is ∙ c.in-Short.is) in
+    rw c.short_counts.ensures (rw z at c.requires.3)
+
+pub put_at-returns-then-left-eq0 : goal.put_at-returns-then-left-eq0
+put_at-returns-then-left-eq0 t c = let y = sym c.shaped_kind.ensures ∙ c.if-shaped_kind.true in
+    put-none (list-deep _ _ _ _ (sym c.first_at.ensures.is ∙ c.in-Long.is) y c.if-left-eq0.true) c.requires.0
+
+pub put_at-returns-then-s-at-lt-HEAD_SIZE : goal.put_at-returns-then-s-at-lt-HEAD_SIZE
+put_at-returns-then-s-at-lt-HEAD_SIZE t c = let y = sym c.shaped_kind.ensures ∙ c.if-shaped_kind.true in
+    put-none (list-cut _ c.args.left _ _ (sym c.first_at.ensures.is ∙ c.in-Long.is) y (omega (arith, c.if-left-eq0.false)) c.if-s-at-lt-HEAD_SIZE.true) c.requires.0
+
+pub put_at-put_items-all-requires : goal.put_at-put_items-all-requires
+put_at-put_items-all-requires t c = (omega (arith, c.requires.0, c.if-left-eq0.false, c.list_at-list.ensures.inside.2), (inside l, c.requires.1, omega (arith, c.requires.2), c.list_at-list.ensures.inside.2, list-few (found l) c.args.base c.requires.3, items-room (found l) c.args.base c.args.section _ _ c.requires.4, c.requires.5))
+
+pub put_at-put_list-end-requires : goal.put_at-put_list-end-requires
+put_at-put_list-end-requires t c = let z = c.put_items-all.ensures.there_is in rw (found l).has-shapes (inside l, c.requires.1, omega (arith, c.requires.2), c.list_at-list.ensures.inside.2, z, rw z (list-few (found l) c.args.base c.requires.3).0.1, rw z (own-few (found l) c.args.base c.requires.3 c.requires.5), own_room (found l) c.args.base c.args.section _ _ (omega (arith, c.requires.4, c.put_items-all.auto)) c.put_items-all.ensures.wrote.after)
+
+pub put_at-plus-requires-then-shaped_kind : goal.put_at-plus-requires-then-shaped_kind
+put_at-plus-requires-then-shaped_kind t c = sum-few (found l) c.args.base c.put_items-all.ensures c.own_counts.ensures c.requires.3
+
+pub put_at-returns-then-shaped_kind : goal.put_at-returns-then-shaped_kind
+put_at-returns-then-shaped_kind t c = list_put (found l) c.args.base c.put_items-all.ensures c.own_counts.ensures c.requires.4 (rw (found l).has-shapes at c.put_list-end.ensures) c.plus-then-shaped_kind.ensures
+
+pub put_at-put_plain-end-requires : goal.put_at-put_plain-end-requires
+put_at-put_plain-end-requires t c = let h = rw c.in-Long.is at c.first_at.ensures.inside in
+    (h, c.requires.1, sym c.first_at.ensures.is ∙ c.in-Long.is, sym c.shaped_kind.ensures ∙ c.if-shaped_kind.false, c.requires.3, c.requires.4)
+
+pub put_at-count_plain-part-requires : goal.put_at-count_plain-part-requires
+put_at-count_plain-part-requires t c = let h = rw c.in-Long.is at c.first_at.ensures.inside in
+    (h, c.requires.1, sym c.first_at.ensures.is ∙ c.in-Long.is, sym c.shaped_kind.ensures ∙ c.if-shaped_kind.false)
+
+pub put_at-plus-requires-in-Long : goal.put_at-plus-requires-in-Long
+put_at-plus-requires-in-Long t c = rw c.count_plain-part.ensures.counts_is c.requires.3
+
+pub put_at-returns-in-Unassigned : goal.put_at-returns-in-Unassigned
+put_at-returns-in-Unassigned t c = put-none (shape-none _ _ _ _ (sym c.first_at.ensures.is ∙ c.in-Unassigned.is)) c.requires.0
+
+pub put_at-returns-in-Short : goal.put_at-returns-in-Short
+put_at-returns-in-Short t c = let h = rw c.in-Short.is at c.first_at.ensures.inside in
+    rw (shape-short pieces c.args.left c.args.s.now c.args.at (sym c.first_at.ensures.is ∙ c.in-Short.is))
+    (record { wrote = c.put_short-end.ensures; next_is = refl; there_is = c.plus.ensures ∙ rw c.short_counts.ensures; inside = omega (arith, h.0) })
+
+pub put_at-returns-else-shaped_kind : goal.put_at-returns-else-shaped_kind
+put_at-returns-else-shaped_kind t c = let v = c.count_plain-part.ensures in record { wrote = c.put_plain-end.ensures; next_is = v.next_is; there_is = c.plus-in-Long.ensures ∙ rw v.counts_is; inside = v.inside }
+
+-- levels left and items left fall as a pair: there are fewer than 65,536 items
+abbrev μ-put-at : Measures 2 put-at-kinds.ps ℕ
+μ-put-at κs a = a.1.1.1.0 * 65536
+
+abbrev μ-put-items : Measures 2 put-items-kinds.ps ℕ
+μ-put-items κs a = a.1.1.1.0 * 65536 + a.1.1.1.1.1.0
+
+abbrev put-at-at : ℕ → In 2 put-at-kinds.ps
+put-at-at t = and 2 put-at-kinds.ps (is 2 put-at-kinds.ps μ-put-at t) put-at.Pre
+
+abbrev put-at-below : ℕ → In 2 put-at-kinds.ps
+put-at-below t = and 2 put-at-kinds.ps (falls 2 put-at-kinds.ps ◌<◌ μ-put-at t) put-at.Pre
+
+abbrev put-items-at : ℕ → In 2 put-items-kinds.ps
+put-items-at t = and 2 put-items-kinds.ps (is 2 put-items-kinds.ps μ-put-items t) put-items.Pre
+
+abbrev put-items-below : ℕ → In 2 put-items-kinds.ps
+put-items-below t =
+    and 2 put-items-kinds.ps (falls 2 put-items-kinds.ps ◌<◌ μ-put-items t) put-items.Pre
+
+-- a list was found, and its items start inside
+found : (l : put-at-lts.After-list-at (put-at-calls t) (put-at-at t) put-at.Post)
+    → let g = l.before.before.before.before.before.before in let q = g.before.before.before.before.before in IsList q.args.left q.args.s.now q.args.at g.kind.given.0.0 l.list_at.result
+found l =
+    let x = l.before in let e = x.before in let b = e.before in let k = b.before in let g = k.before.before in let f = g.before.before in
+    is-list _ _ _ _ _ (sym f.first-at.ensures.0 ∙ g.kind.given.1) (sym k.shaped-kind.ensures ∙ b.if1.true) (omega (arith, e.if2.false)) x.if3.false l.list_at.ensures.0
+
+inside : (l : put-at-lts.After-list-at (put-at-calls t) (put-at-at t) put-at.Post) → l.list_at.result.from ≤ length l.before.before.before.before.before.before.before.before.before.before.before.args.s.now
+inside l = omega (arith, l.list_at.ensures.1.1, l.before.if3.false)
+
+-- where the name ends is inside
+named-inside : (n : put-items-lts.After-past-name (put-items-calls t) (put-items-at t) put-items.Post put-items-Inv-loop put-items-μ-loop) → n.past-name.result ≤ length n.before.before.before.before.before.args.s.now
+named-inside n = omega (arith, n.past-name.ensures.1.1, n.before.before.loop.invariant.inside)
+
+pub put_items-loop-due-init : goal.put_items-loop-due-init
+put_items-loop-due-init t c = turn-first _ _ _ _ _ _ _ _ _ c.requires.0 c.requires.6
+
+pub put_items-overflow_add-text : goal.put_items-overflow_add-text
+put_items-overflow_add-text t c = let y = turn-text c.loop-due.invariant c.requires.4 c.requires.5 c.loop-due-test.true c.past_name-start.ensures.is c.past_name-start.ensures.inside.0 (named-inside n) c.text_size-text.ensures in
+    record { fits = omega arith }
+
+pub put_items-put_at-part-requires : goal.put_items-put_at-part-requires
+put_items-put_at-part-requires t c = (omega (arith, c.requires.0, c.loop-due-test.true, c.loop-due.invariant.fewer), (named-inside n, c.requires.1, c.requires.2, turn-few c.loop-due.invariant c.requires.4 c.requires.5 c.loop-due-test.true c.past_name-start.ensures.is, turn-room c.loop-due.invariant c.requires.4 c.requires.5 c.loop-due-test.true c.past_name-start.ensures.is, c.loop-due.invariant.linked))
+
+pub put_items-loop-due-preserved : goal.put_items-loop-due-preserved
+put_items-loop-due-preserved t c = turn_on c.loop-due.invariant c.requires.4 c.requires.5 c.loop-due-test.true c.past_name-start.ensures.is c.past_name-start.ensures.inside.0 (named-inside n) c.text_size-text.ensures c.put_at-part.ensures (omega (arith, c.put_at-part.auto)) (shape-linked _ _ _)
+
+pub put_items-returns : goal.put_items-returns
+put_items-returns t c = turn_end c.loop-due.invariant c.loop-due-test.false

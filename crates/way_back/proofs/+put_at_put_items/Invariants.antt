@@ -1,0 +1,27 @@
+-- The proof of the cycle of calls {put_at, put_items}. Levels left and items left fall as a pair: levels * 65,536 + items, at each call. put_items
+-- writes the shapes of its list in a loop, of which each turn leaves one item less; put_at writes a list's items, and then its node.
+use borrow.Author.Rules.{rules}
+use native.Mathlib.Omega.{arith}
+use Prim.Native.Nat.{ℕ, ◌<◌, ◌≤◌, ◌+◌, ◌*◌}
+use mathlib.Core.Path.{refl, sym, ◌∙◌}
+use lib.ListN.{length}
+use Rattle.steps.specs.Pass.{pass_shape}
+use Rattle.steps.proofs.Passing.{shape-none, shape-short, list-deep, list-cut}
+use Rattle.counts.specs.Pieces.{pieces}
+use Rattle.counts.proofs.Linked.{shape-linked}
+use Rattle.counts.proofs.Counting.{IsList, is-list}
+use Rattle.way_back.proofs.Putting.{put-none, Turn, turn-first, turn-few, turn-room, turn-text, turn_on, turn_end, list-few, own-few, items-room, own_room, sum-few, list_put}
+use Rattle.way_back.proofs.+put_at_put_items.Given as goal
+
+abbrev pub decreases-put_at : goal.decreases-put_at
+decreases-put_at l = l.left * 65536
+
+abbrev pub decreases-put_items : goal.decreases-put_items
+decreases-put_items l = l.left * 65536 + l.count
+
+-- the shapes so far are written, and those that are due end as the whole list does
+abbrev pub invariant-put_items-loop-due : goal.invariant-put_items-loop-due
+invariant-put_items-loop-due l = Turn l.section (pass_shape pieces l.left) l.kind l.s l.from l.first l.count l.initial.there l.initial.out l.out l.at l.to l.there l.text l.due
+
+abbrev pub decreases-put_items-loop-due : goal.decreases-put_items-loop-due
+decreases-put_items-loop-due l = l.left * 65536 + l.due

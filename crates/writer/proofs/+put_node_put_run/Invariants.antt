@@ -1,0 +1,26 @@
+-- The proof of the cycle of calls {put_node, put_run}. Nodes and links left fall as a pair: nodes * 65,536 + links, at each call; the targets of
+-- node i stand before it. put_run writes its links in a loop, of which each turn leaves one link less; put_node writes a list's count and links, and
+-- then its head.
+use borrow.Author.Rules.{rules}
+use native.Mathlib.Omega.{arith}
+use Prim.Native.Nat.{ℕ, ◌<◌, ◌+◌, ◌*◌}
+use native.Mathlib.Nat.{add-zero}
+use mathlib.Core.Path.{refl, sym, ◌∙◌}
+use Rattle.buffers.proofs.Written.{written_none}
+use Rattle.writer.proofs.Links.{node-formed, node-by-form, node-linked, link-named, bare-before, named-before}
+use Rattle.writer.proofs.Turns.{Turn, turn-first, turn_last, bare-child, named-child, no-child, room-name, room-child, turn_on}
+use Rattle.writer.proofs.Heads.{list-room, list_wrote}
+use Rattle.writer.proofs.+put_node_put_run.Given as goal
+
+abbrev pub decreases-put_node : goal.decreases-put_node
+decreases-put_node l = (l.i + 1) * 65536
+
+abbrev pub decreases-put_run : goal.decreases-put_run
+decreases-put_run l = l.i * 65536 + l.b
+
+-- the links so far are written, and those that are due end as the whole run does
+abbrev pub invariant-put_run-loop-due : goal.invariant-put_run-loop-due
+invariant-put_run-loop-due l = Turn l.nodes l.rest l.links l.names l.way l.i l.a l.b l.first l.initial.out l.out l.x l.to l.due
+
+abbrev pub decreases-put_run-loop-due : goal.decreases-put_run-loop-due
+decreases-put_run-loop-due l = l.i * 65536 + l.due

@@ -1,0 +1,32 @@
+-- The proof of the cycle of calls {put_items, put_shape}. Levels left and items left fall as a pair: levels * 65,536 + items, at each call.
+-- put_items writes its list in a loop, of which each turn leaves one item less; put_shape writes a list's count and items, and then its head.
+use borrow.Author.Rules.{rules}
+use native.Mathlib.Omega.{arith}
+use Prim.Native.Nat.{ℕ, ◌<◌, ◌≤◌, ◌+◌, ◌*◌}
+use native.Mathlib.Nat.{add-zero}
+use mathlib.Core.Path.{refl, sym, ◌∙◌}
+use mathlib.Core.List.{[]}
+use mathlib.Core.Option.{some}
+use lib.ListN.{length}
+use Rattle.buffers.proofs.Written.{written_none}
+use Rattle.steps.specs.Pass.{pass_shape}
+use Rattle.steps.proofs.Passing.{shape-none, shape-short, list-deep, list-cut, items-none}
+use Rattle.steps.proofs.Inside.{shape-inside}
+use Rattle.sheets.specs.Index.{blank_in}
+use Rattle.writes.specs.Writes.{items, writes}
+use Rattle.writes.proofs.Turns.{Turn, room-name, room-shape, turn_on, turn-made}
+use Rattle.writes.proofs.Long.{packed-room, packed-wrote, long-room, long-wrote}
+use Rattle.writes.proofs.+put_items_put_shape.Given as goal
+
+abbrev pub decreases-put_items : goal.decreases-put_items
+decreases-put_items l = l.left * 65536 + l.count
+
+abbrev pub decreases-put_shape : goal.decreases-put_shape
+decreases-put_shape l = l.left * 65536
+
+-- the items so far are written, and those that are due end as the whole list does
+abbrev pub invariant-put_items-loop-due : goal.invariant-put_items-loop-due
+invariant-put_items-loop-due l = Turn (blank_in l.sheet) (pass_shape (writes (blank_in l.sheet)) l.left) l.kind l.s l.from l.first l.count l.initial.out l.out l.at l.to l.due
+
+abbrev pub decreases-put_items-loop-due : goal.decreases-put_items-loop-due
+decreases-put_items-loop-due l = l.left * 65536 + l.due
