@@ -8,7 +8,7 @@ use Rattle.counts.proofs.count_plain.Goals as goal
 
 pub returns-then-named_kind : goal.returns-then-named_kind
 returns-then-named_kind c = let a = c.args in let n = c.past_long-next.ensures in rw (shape-symbol pieces a.left a.s.now a.at c.requires.2 c.requires.3 (sym c.named_kind.ensures ∙ c.if-named_kind.true))
-    (record { next_is = n.is; counts_is = c.count_symbol.ensures ∙ rw (part-is a.at c.past_long-next.result a.s.now n.onward.0 n.onward.1, n.is); inside = n.onward.1 })
+    (record { next_is = n.is; counts_is = c.count_symbol.ensures ∙ rw (part-is a.at c.past_long-next.result a.s.now n.onward n.inside, n.is); inside = n.inside })
 
 pub returns-then-s-at-lt-LONG_BLANK : goal.returns-then-s-at-lt-LONG_BLANK
 returns-then-s-at-lt-LONG_BLANK c = let a = c.args in rw (blank_cut pieces a.left a.s.now a.at c.requires.2 c.requires.3 (sym c.named_kind.ensures ∙ c.if-named_kind.false) c.if-s-at-lt-LONG_BLANK.true)

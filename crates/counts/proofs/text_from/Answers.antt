@@ -13,7 +13,7 @@ returns-in-Number-clause-is c = let h = rw c.in-Number.is at c.leb128.ensures.in
 pub returns-in-Number-clause-inside : goal.returns-in-Number-clause-inside
 unfolding text_from
 returns-in-Number-clause-inside c = let h = rw c.in-Number.is at c.leb128.ensures.inside in
-    rw (← c.leb128.ensures.is, c.in-Number.is) (omega arith)
+    omega arith
 
 pub returns-in-Fault-clause-is : goal.returns-in-Fault-clause-is
 unfolding text_from

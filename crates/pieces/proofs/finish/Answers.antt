@@ -26,12 +26,32 @@ ended : (s : State) → s.count ≤ max_bytes → s.whole ≤ s.count → judged
 unfolding finish
 ended s h k = rw (le-ltb max_bytes s.count h, le-ltb s.count s.whole k)
 
-pub returns-then-state-gt-BYTES : goal.returns-then-state-gt-BYTES
-returns-then-state-gt-BYTES c = let s = c.args.state in (refl, ((λ u b e. over s c.if-state-gt-BYTES.true ∙ finish-led u s b e), (omega arith, omega arith)))
+pub returns-then-state-gt-BYTES-clause-closed : goal.returns-then-state-gt-BYTES-clause-closed
+returns-then-state-gt-BYTES-clause-closed c = let s = c.args.state in refl
 
-pub returns-then-state : goal.returns-then-state
-returns-then-state c = let s = c.args.state in (refl, ((λ u b e. cut s c.if-state-gt-BYTES.false c.if-state.true ∙ finish-led u s b e), (omega arith, omega arith)))
+pub returns-then-state-gt-BYTES-clause-led : goal.returns-then-state-gt-BYTES-clause-led
+returns-then-state-gt-BYTES-clause-led c = let s = c.args.state in (λ u b e. over s c.if-state-gt-BYTES.true ∙ finish-led u s b e)
 
-pub returns : goal.returns
-returns c = let s = c.args.state in let is = rw c.mode_of.ensures at c.verdict.ensures ∙ ended s c.if-state-gt-BYTES.false c.if-state.false in
-    (refl, ((λ u b e. is ∙ finish-led u s b e), rw is (finish-small s (omega arith) (omega arith) (omega arith) (omega arith) (omega arith))))
+pub returns-then-state-gt-BYTES-clause-small : goal.returns-then-state-gt-BYTES-clause-small
+returns-then-state-gt-BYTES-clause-small c = let s = c.args.state in (omega arith, omega arith)
+
+pub returns-then-state-clause-closed : goal.returns-then-state-clause-closed
+returns-then-state-clause-closed c = let s = c.args.state in refl
+
+pub returns-then-state-clause-led : goal.returns-then-state-clause-led
+returns-then-state-clause-led c = let s = c.args.state in (λ u b e. cut s c.if-state-gt-BYTES.false c.if-state.true ∙ finish-led u s b e)
+
+pub returns-then-state-clause-small : goal.returns-then-state-clause-small
+returns-then-state-clause-small c = let s = c.args.state in (omega arith, omega arith)
+
+pub returns-clause-closed : goal.returns-clause-closed
+returns-clause-closed c = let s = c.args.state in let is = rw c.mode_of.ensures at c.verdict.ensures ∙ ended s c.if-state-gt-BYTES.false c.if-state.false in
+    refl
+
+pub returns-clause-led : goal.returns-clause-led
+returns-clause-led c = let s = c.args.state in let is = rw c.mode_of.ensures at c.verdict.ensures ∙ ended s c.if-state-gt-BYTES.false c.if-state.false in
+    (λ u b e. is ∙ finish-led u s b e)
+
+pub returns-clause-small : goal.returns-clause-small
+returns-clause-small c = let s = c.args.state in let is = rw c.mode_of.ensures at c.verdict.ensures ∙ ended s c.if-state-gt-BYTES.false c.if-state.false in
+    rw is (finish-small s (omega arith) (omega arith) (omega arith) (omega arith) (omega arith))

@@ -17,20 +17,20 @@ returns-then-bytes-gt-MAX_ENCODINGS-clause-is c = rw (← c.two_at-bytes.ensures
 
 pub returns-then-bytes-sum-clause-is : goal.returns-then-bytes-sum-clause-is
 unfolding second_at
-returns-then-bytes-sum-clause-is c = let t = c.two_at-bytes in rw (← t.ensures.0, le-ltb max_encodings t.result (omega arith)) (search tests)
+returns-then-bytes-sum-clause-is c = let t = c.two_at-bytes in rw (← t.ensures.is, le-ltb max_encodings t.result (omega arith)) (search tests)
 
 pub returns-then-sheet-from-clause-is : goal.returns-then-sheet-from-clause-is
 unfolding second_at
-returns-then-sheet-from-clause-is c = let t = c.two_at-bytes in rw (← t.ensures.0, le-ltb max_encodings t.result (omega arith)) (search tests)
+returns-then-sheet-from-clause-is c = let t = c.two_at-bytes in rw (← t.ensures.is, le-ltb max_encodings t.result (omega arith)) (search tests)
 
 pub returns-then-bytes-sheet-clause-is : goal.returns-then-bytes-sheet-clause-is
 unfolding second_at
-returns-then-bytes-sheet-clause-is c = let t = c.two_at-bytes in rw (← t.ensures.0, le-ltb max_encodings t.result (omega arith)) (search tests)
+returns-then-bytes-sheet-clause-is c = let t = c.two_at-bytes in rw (← t.ensures.is, le-ltb max_encodings t.result (omega arith)) (search tests)
 
 pub returns-clause-is : goal.returns-clause-is
 unfolding second_at
-returns-clause-is c = let e = c.encodings_at in let t = c.two_at-bytes in rw (← t.ensures.0, le-ltb max_encodings t.result (omega arith)) (simp e.ensures.0 (search tests))
+returns-clause-is c = let e = c.encodings_at in let t = c.two_at-bytes in rw (← t.ensures.is, le-ltb max_encodings t.result (omega arith)) (simp e.ensures.is (search tests))
 
 pub returns-clause-found : goal.returns-clause-found
 unfolding second_at
-returns-clause-found c = let e = c.encodings_at in let t = c.two_at-bytes in e.ensures.1
+returns-clause-found c = let e = c.encodings_at in let t = c.two_at-bytes in e.ensures.found

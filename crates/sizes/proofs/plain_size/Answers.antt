@@ -10,7 +10,7 @@ use Rattle.sizes.proofs.plain_size.Goals as goal
 
 pub returns-then-named_kind-clause-is : goal.returns-then-named_kind-clause-is
 returns-then-named_kind-clause-is c = let a = c.args in let p = c.past_long-next.ensures in sym (shape-symbol (sizes (blank_in a.sheet.now)) a.left a.s.now a.at c.requires.2 c.requires.3 (sym c.named_kind.ensures ∙ c.if-named_kind.true)
-          ∙ rw (← p.is, length-slice a.at c.past_long-next.result a.s.now p.onward.1))
+          ∙ rw (← p.is, length-slice a.at c.past_long-next.result a.s.now p.inside))
 
 pub returns-then-s-at-lt-LONG_BLANK-clause-is : goal.returns-then-s-at-lt-LONG_BLANK-clause-is
 returns-then-s-at-lt-LONG_BLANK-clause-is c = let a = c.args in c.nothing.ensures

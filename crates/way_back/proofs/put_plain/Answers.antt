@@ -10,11 +10,11 @@ use Rattle.way_back.proofs.Texts.{symbol-here}
 use Rattle.way_back.proofs.put_plain.Goals as goal
 
 pub put_symbol-requires : goal.put_symbol-requires
-put_symbol-requires c = let l = c.past_long-next in let a = c.args in let e = symbol-here a.left a.s.now a.at l.result c.requires.2 c.requires.3 (sym c.named_kind.ensures ∙ c.if-named_kind.true) l.ensures.0 l.ensures.1.0 l.ensures.1.1 in
+put_symbol-requires c = let l = c.past_long-next in let a = c.args in let e = symbol-here a.left a.s.now a.at l.result c.requires.2 c.requires.3 (sym c.named_kind.ensures ∙ c.if-named_kind.true) l.ensures.is l.ensures.onward l.ensures.inside in
     (simp (length-take, length-drop) (omega (arith, c.requires.1)), rw e at c.requires.4, rw e at c.requires.5)
 
 pub returns-then-named_kind : goal.returns-then-named_kind
-returns-then-named_kind c = let a = c.args in rw (symbol-here a.left a.s.now a.at c.past_long-next.result c.requires.2 c.requires.3 (sym c.named_kind.ensures ∙ c.if-named_kind.true) c.past_long-next.ensures.is c.past_long-next.ensures.onward.0 c.past_long-next.ensures.onward.1)
+returns-then-named_kind c = let a = c.args in rw (symbol-here a.left a.s.now a.at c.past_long-next.result c.requires.2 c.requires.3 (sym c.named_kind.ensures ∙ c.if-named_kind.true) c.past_long-next.ensures.is c.past_long-next.ensures.onward c.past_long-next.ensures.inside)
     c.put_symbol.ensures
 
 pub returns-then-s-at-lt-LONG_BLANK : goal.returns-then-s-at-lt-LONG_BLANK

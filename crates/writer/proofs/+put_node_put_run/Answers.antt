@@ -63,7 +63,7 @@ put_node-returns-in-Byte-clause-after t c = let z = node-by-form _ _ _ _ c.requi
 
 pub put_node-returns-in-Byte-clause-wrote : goal.put_node-returns-in-Byte-clause-wrote
 put_node-returns-in-Byte-clause-wrote t c = let z = node-by-form _ _ _ _ c.requires.0 _ c.requires.1 _ c.node_at-node.ensures.is _ (sym c.form_of.ensures ∙ c.in-Byte.is) in
-    rw z (c.put_byte.ensures)
+    c.put_byte.ensures
 
 pub put_node-returns-in-Blank : goal.put_node-returns-in-Blank
 put_node-returns-in-Blank t c = let z = node-by-form _ _ _ _ c.requires.0 _ c.requires.1 _ c.node_at-node.ensures.is _ (sym c.form_of.ensures ∙ c.in-Blank.is) in

@@ -44,7 +44,7 @@ returns-in-Refused-clause-is c = rw (found-comes (found e) (length c.args.out.no
 
 pub returns-in-Refused-clause-buffer : goal.returns-in-Refused-clause-buffer
 unfolding buffer_after
-returns-in-Refused-clause-buffer c = rw (found-comes (found e) (length c.args.out.now) (sym c.in-Refused.is ∙ c.verdict.ensures)) refl
+returns-in-Refused-clause-buffer c = refl
 
 pub returns-in-Written-clause-is : goal.returns-in-Written-clause-is
 returns-in-Written-clause-is c = let a = c.args in let r = root-encoded a.nodes.now a.rest.now a.links a.names a.count c.requires.1 in
@@ -56,4 +56,4 @@ pub returns-in-Written-clause-buffer : goal.returns-in-Written-clause-buffer
 returns-in-Written-clause-buffer c = let a = c.args in let r = root-encoded a.nodes.now a.rest.now a.links a.names a.count c.requires.1 in
     let v = found-comes (found e) (length a.out.now) (sym c.in-Written.is ∙ c.verdict.ensures) in
     let w = rw r at c.put_node.ensures in
-    rw v.0 (w.1 ∙ buffer-made _ _)
+    w.1 ∙ buffer-made _ _

@@ -11,13 +11,13 @@ use Rattle.writes.proofs.put_plain.Goals as goal
 
 pub put_part-requires : goal.put_part-requires
 put_part-requires c = let a = c.args in let l = c.past_long-next.ensures in let h = rw (shape-symbol (writes (blank_in a.sheet.now)) a.left a.s.now a.at c.requires.2 c.requires.3 (sym c.named_kind.ensures ∙ c.if-named_kind.true), ← l.is) at c.requires.4.0 in
-    (l.onward.0, l.onward.1, omega (arith, length-slice a.at c.past_long-next.result a.s.now l.onward.1))
+    (l.onward, l.inside, omega (arith, length-slice a.at c.past_long-next.result a.s.now l.inside))
 
 pub returns-then-named_kind : goal.returns-then-named_kind
 returns-then-named_kind c = let a = c.args in let l = c.past_long-next.ensures in rw (shape-symbol (writes (blank_in a.sheet.now)) a.left a.s.now a.at c.requires.2 c.requires.3 (sym c.named_kind.ensures ∙ c.if-named_kind.true), ← l.is)
     (record {
       next_is = refl;
-      to_is = rw (length-slice a.at c.past_long-next.result a.s.now l.onward.1);
+      to_is = rw (length-slice a.at c.past_long-next.result a.s.now l.inside);
       wrote = c.put_part.ensures;
     })
 
