@@ -15,7 +15,7 @@ slice_bounds-text_size-end c = let i = c.loop-due.invariant.inside c.loop-due-te
 
 pub overflow_add-text : goal.overflow_add-text
 overflow_add-text c = let h = c.loop-due.invariant.inside c.loop-due-test.true in
-    record { fits = omega (arith, (loop-again c).short, c.past_name-start.ensures.inside.1, c.requires) }
+    record { fits = omega (arith, ((let w = c.args.w.now in let h = c.loop-due.invariant.inside c.loop-due-test.true in let i : c.past_name-start.result ≤ length w = omega (arith, c.past_name-start.ensures.inside.1) in texts-turn w _ _ _ _ _ c.loop-due.invariant c.loop-due-test.true _ _ c.past_name-start.ensures.is c.past_name-start.ensures.inside.0 i c.text_size-text.ensures)).short, c.past_name-start.ensures.inside.1, c.requires) }
 
 pub loop-due-preserved : goal.loop-due-preserved
 loop-due-preserved c = let w = c.args.w.now in let h = c.loop-due.invariant.inside c.loop-due-test.true in

@@ -14,10 +14,6 @@ use Rattle.entries.proofs.Entries.{no_own}
 use Rattle.entries.proofs.Owning.{Turn, few-inner, few-sums, item-fits, turn_on}
 use Rattle.entries.proofs.put_own.Goals as goal
 
--- where the name ends is inside
-named-inside : (n : tie.After-past-name invariant-loop decreases-loop) → n.past-name.result ≤ length n.before.before.before.before.before.before.before.args.s.now
-named-inside n = omega (arith, n.past-name.ensures.1.1, n.before.before.loop.invariant.inside)
-
 pub returns-then-not-has_entries : goal.returns-then-not-has_entries
 returns-then-not-has_entries c = rw (no_own c.args.section c.args.kind c.args.base c.args.after _ _ _ _ (sym c.has_entries.ensures ∙ not-true _ c.if-not-has_entries.true)) (wrote_none _ _)
 
@@ -25,23 +21,23 @@ pub loop-due-init : goal.loop-due-init
 loop-due-init c = record { a = no_items; goes = refl; few = omega (arith, c.requires.4); wrote = wrote_none _ _; nodes-is = refl; text_is = refl; k-is = refl; long = refl; inside = c.requires.0; fewer = omega arith }
 
 pub count_inner-part-requires : goal.count_inner-part-requires
-count_inner-part-requires c = (named-inside n, c.requires.1, c.requires.2, few-inner c.loop-due.invariant c.requires.4 c.loop-due-test.true _ c.past_name-start.ensures.is)
+count_inner-part-requires c = ((omega (arith, c.past_name-start.ensures.inside.1, c.loop-due.invariant.inside)), c.requires.1, c.requires.2, few-inner c.loop-due.invariant c.requires.4 c.loop-due-test.true _ c.past_name-start.ensures.is)
 
 pub overflow_add-nodes : goal.overflow_add-nodes
-overflow_add-nodes c = record { fits = omega (arith, few-sums c.loop-due.invariant c.requires.4 c.loop-due-test.true _ c.past_name-start.ensures.is c.past_name-start.ensures.inside.0 (named-inside n) _ c.count_inner-part.ensures) }
+overflow_add-nodes c = record { fits = omega (arith, few-sums c.loop-due.invariant c.requires.4 c.loop-due-test.true _ c.past_name-start.ensures.is c.past_name-start.ensures.inside.0 ((omega (arith, c.past_name-start.ensures.inside.1, c.loop-due.invariant.inside))) _ c.count_inner-part.ensures) }
 
 pub overflow_add-base : goal.overflow_add-base
-overflow_add-base c = record { fits = omega (arith, few-sums c.loop-due.invariant c.requires.4 c.loop-due-test.true _ c.past_name-start.ensures.is c.past_name-start.ensures.inside.0 (named-inside n) _ c.count_inner-part.ensures) }
+overflow_add-base c = record { fits = omega (arith, few-sums c.loop-due.invariant c.requires.4 c.loop-due-test.true _ c.past_name-start.ensures.is c.past_name-start.ensures.inside.0 ((omega (arith, c.past_name-start.ensures.inside.1, c.loop-due.invariant.inside))) _ c.count_inner-part.ensures) }
 
 pub put_item-to-requires : goal.put_item-to-requires
-put_item-to-requires c = item-fits c.loop-due.invariant c.requires.4 c.loop-due-test.true _ c.past_name-start.ensures.is c.past_name-start.ensures.inside.0 (named-inside n) _ c.count_inner-part.ensures c.requires.5 _ c.before-in-loop-due.ensures c.requires.1
+put_item-to-requires c = item-fits c.loop-due.invariant c.requires.4 c.loop-due-test.true _ c.past_name-start.ensures.is c.past_name-start.ensures.inside.0 ((omega (arith, c.past_name-start.ensures.inside.1, c.loop-due.invariant.inside))) _ c.count_inner-part.ensures c.requires.5 _ c.before-in-loop-due.ensures c.requires.1
 
 pub overflow_add-text : goal.overflow_add-text
-overflow_add-text c = let h = few-sums c.loop-due.invariant c.requires.4 c.loop-due-test.true _ c.past_name-start.ensures.is c.past_name-start.ensures.inside.0 (named-inside n) _ c.count_inner-part.ensures in
+overflow_add-text c = let h = few-sums c.loop-due.invariant c.requires.4 c.loop-due-test.true _ c.past_name-start.ensures.is c.past_name-start.ensures.inside.0 ((omega (arith, c.past_name-start.ensures.inside.1, c.loop-due.invariant.inside))) _ c.count_inner-part.ensures in
     record { fits = omega (arith, h.2, c.text_size-text.ensures) }
 
 pub loop-due-preserved : goal.loop-due-preserved
-loop-due-preserved c = turn_on c.loop-due.invariant c.requires.4 c.loop-due-test.true _ c.past_name-start.ensures.is c.past_name-start.ensures.inside.0 (named-inside n) _ c.count_inner-part.ensures c.requires.5 _ c.before-in-loop-due.ensures c.put_item-to.ensures (omega (arith, c.put_item-to.auto)) c.text_size-text.ensures
+loop-due-preserved c = turn_on c.loop-due.invariant c.requires.4 c.loop-due-test.true _ c.past_name-start.ensures.is c.past_name-start.ensures.inside.0 ((omega (arith, c.past_name-start.ensures.inside.1, c.loop-due.invariant.inside))) _ c.count_inner-part.ensures c.requires.5 _ c.before-in-loop-due.ensures c.put_item-to.ensures (omega (arith, c.put_item-to.auto)) c.text_size-text.ensures
 
 pub returns : goal.returns
 returns c = rw (c.loop-due.invariant.goes, items-none _ _ _ _ _ _ _ c.loop-due-test.false) c.loop-due.invariant.wrote

@@ -15,4 +15,4 @@ pub returns-clause-after : goal.returns-clause-after
 returns-clause-after c = rw c.if-counted.false (sym (add-zero _))
 
 pub returns-clause-wrote : goal.returns-clause-wrote
-returns-clause-wrote c = sym (written_none _ _)
+returns-clause-wrote c = rw c.if-counted.false (sym (written_none _ _))

@@ -15,7 +15,7 @@ pub returns-in-Bare-clause-after : goal.returns-in-Bare-clause-after
 returns-in-Bare-clause-after c = rw c.in-Bare.is (sym (add-zero _))
 
 pub returns-in-Bare-clause-wrote : goal.returns-in-Bare-clause-wrote
-returns-in-Bare-clause-wrote c = sym (written_none _ _)
+returns-in-Bare-clause-wrote c = rw c.in-Bare.is (sym (written_none _ _))
 
 pub returns-in-Named : goal.returns-in-Named
 returns-in-Named c = rw c.in-Named.is c.put_text.ensures

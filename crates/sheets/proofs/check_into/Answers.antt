@@ -42,4 +42,4 @@ returns-in-Rising-clause-is c = let a = c.second_at in let s = c.args.sheet.now 
 pub returns-in-Rising-clause-ready : goal.returns-in-Rising-clause-ready
 unfolding sheet_at
 returns-in-Rising-clause-ready c = let a = c.second_at in let s = c.args.sheet.now in let e : a.result ≡ checked (read_sheet sheet_broken s) = rw (← steps-checked sheet_broken s (λ i. omega (arith, c.type_inv.sheet i)), ← c.two_at-count.ensures.is, le-ltb max_entries c.two_at-count.result (omega arith), ← c.entries_of.ensures, c.in-Rising.is) (simp a.ensures.is (search tests)) in
-    ready_made s _ a.result (λ i. omega (arith, c.type_inv.sheet i)) (omega (arith, a.auto.1.1.1.1.0)) e (rw c.two_at-count.ensures.is at a.ensures.found)
+    ready_made s _ a.result (λ i. omega (arith, c.type_inv.sheet i)) (omega (arith, a.auto.index)) e (rw c.two_at-count.ensures.is at a.ensures.found)

@@ -33,20 +33,6 @@ abbrev put-items-below : ℕ → In 2 put-items-kinds.ps
 put-items-below t =
     and 2 put-items-kinds.ps (falls 2 put-items-kinds.ps ◌<◌ μ-put-items t) put-items.Pre
 
--- a list was found, and its items start inside
-found : (l : put-at-lts.After-list-at (put-at-calls t) (put-at-at t) put-at.Post)
-    → let g = l.before.before.before.before.before.before in let q = g.before.before.before.before.before in IsList q.args.left q.args.s.now q.args.at g.kind.given.0.0 l.list_at.result
-found l =
-    let x = l.before in let e = x.before in let b = e.before in let k = b.before in let g = k.before.before in let f = g.before.before in
-    is-list _ _ _ _ _ (sym f.first-at.ensures.0 ∙ g.kind.given.1) (sym k.shaped-kind.ensures ∙ b.if1.true) (omega (arith, e.if2.false)) x.if3.false l.list_at.ensures.0
-
-inside : (l : put-at-lts.After-list-at (put-at-calls t) (put-at-at t) put-at.Post) → l.list_at.result.from ≤ length l.before.before.before.before.before.before.before.before.before.before.before.args.s.now
-inside l = omega (arith, l.list_at.ensures.1.1, l.before.if3.false)
-
--- where the name ends is inside
-named-inside : (n : put-items-lts.After-past-name (put-items-calls t) (put-items-at t) put-items.Post put-items-Inv-loop put-items-μ-loop) → n.past-name.result ≤ length n.before.before.before.before.before.args.s.now
-named-inside n = omega (arith, n.past-name.ensures.1.1, n.before.before.loop.invariant.inside)
-
 -- In the answers q is the start, f the first byte read, m and g what it says, k tells the kind, b, e and x are the tests before the list, l is its
 -- listing, v its items written, u its node written, w a shape of one byte or with another payload written, and n what was counted; in put-items' o is
 -- the loop, n the name passed over, p its text measured and v the shape written.
@@ -54,11 +40,11 @@ pub put_at-bounds-s-at : goal.put_at-bounds-s-at
 put_at-bounds-s-at t c = let h = rw c.in-Short.is at c.first_at.ensures.inside in search rules
 
 pub put_at-put_short-end-requires : goal.put_at-put_short-end-requires
-put_at-put_short-end-requires t c = let z = shape-short pieces c.args.left c.args.s.now c.args.at (sym c.first_at.ensures.is ∙ c.in-Short.is) in
+put_at-put_short-end-requires t c = let z = shape-short pieces c.args.false c.args.s.now c.args.at (sym c.first_at.ensures.is ∙ c.in-Short.is) in
     (rw z at c.requires.3, rw z at c.requires.4)
 
 pub put_at-plus-requires : goal.put_at-plus-requires
-put_at-plus-requires t c = let z = shape-short pieces c.args.left c.args.s.now c.args.at (sym c.first_at.ensures.is ∙ c.in-Short.is) in
+put_at-plus-requires t c = let z = shape-short pieces c.args.false c.args.s.now c.args.at (sym c.first_at.ensures.is ∙ c.in-Short.is) in
     rw c.short_counts.ensures (rw z at c.requires.3)
 
 pub put_at-returns-then-left-eq0 : goal.put_at-returns-then-left-eq0
@@ -67,19 +53,19 @@ put_at-returns-then-left-eq0 t c = let y = sym c.shaped_kind.ensures ∙ c.if-sh
 
 pub put_at-returns-then-s-at-lt-HEAD_SIZE : goal.put_at-returns-then-s-at-lt-HEAD_SIZE
 put_at-returns-then-s-at-lt-HEAD_SIZE t c = let y = sym c.shaped_kind.ensures ∙ c.if-shaped_kind.true in
-    put-none (list-cut _ c.args.left _ _ (sym c.first_at.ensures.is ∙ c.in-Long.is) y (omega (arith, c.if-left-eq0.false)) c.if-s-at-lt-HEAD_SIZE.true) c.requires.0
+    put-none (list-cut _ c.args.false _ _ (sym c.first_at.ensures.is ∙ c.in-Long.is) y (omega (arith, c.if-left-eq0.false)) c.if-s-at-lt-HEAD_SIZE.true) c.requires.0
 
 pub put_at-put_items-all-requires : goal.put_at-put_items-all-requires
-put_at-put_items-all-requires t c = (omega (arith, c.requires.0, c.if-left-eq0.false, c.list_at-list.ensures.inside.2), (inside l, c.requires.1, omega (arith, c.requires.2), c.list_at-list.ensures.inside.2, list-few (found l) c.args.base c.requires.3, items-room (found l) c.args.base c.args.section _ _ c.requires.4, c.requires.5))
+put_at-put_items-all-requires t c = (omega (arith, c.if-left-eq0.false, c.list_at-list.ensures.inside.2), ((omega (arith, c.list_at-list.ensures.inside.1, c.if-s-at-lt-HEAD_SIZE.false)), c.requires.1, omega (arith, c.requires.2), c.list_at-list.ensures.inside.2, list-few ((is-list _ _ _ _ _ (sym c.first_at.ensures.is ∙ c.in-Long.is) (sym c.shaped_kind.ensures ∙ c.if-shaped_kind.true) (omega (arith, c.if-left-eq0.false)) c.if-s-at-lt-HEAD_SIZE.false c.list_at-list.ensures.is)) c.args.base c.requires.3, items-room ((is-list _ _ _ _ _ (sym c.first_at.ensures.is ∙ c.in-Long.is) (sym c.shaped_kind.ensures ∙ c.if-shaped_kind.true) (omega (arith, c.if-left-eq0.false)) c.if-s-at-lt-HEAD_SIZE.false c.list_at-list.ensures.is)) c.args.base c.args.section _ _ c.requires.4, c.requires.5))
 
 pub put_at-put_list-end-requires : goal.put_at-put_list-end-requires
-put_at-put_list-end-requires t c = let z = c.put_items-all.ensures.there_is in rw (found l).has-shapes (inside l, c.requires.1, omega (arith, c.requires.2), c.list_at-list.ensures.inside.2, z, rw z (list-few (found l) c.args.base c.requires.3).0.1, rw z (own-few (found l) c.args.base c.requires.3 c.requires.5), own_room (found l) c.args.base c.args.section _ _ (omega (arith, c.requires.4, c.put_items-all.auto)) c.put_items-all.ensures.wrote.after)
+put_at-put_list-end-requires t c = let z = c.put_items-all.ensures.there_is in rw ((is-list _ _ _ _ _ (sym c.first_at.ensures.is ∙ c.in-Long.is) (sym c.shaped_kind.ensures ∙ c.if-shaped_kind.true) (omega (arith, c.if-left-eq0.false)) c.if-s-at-lt-HEAD_SIZE.false c.list_at-list.ensures.is)).has-shapes ((omega (arith, c.list_at-list.ensures.inside.1, c.if-s-at-lt-HEAD_SIZE.false)), c.requires.1, omega (arith, c.requires.2), c.list_at-list.ensures.inside.2, z, rw z (list-few ((is-list _ _ _ _ _ (sym c.first_at.ensures.is ∙ c.in-Long.is) (sym c.shaped_kind.ensures ∙ c.if-shaped_kind.true) (omega (arith, c.if-left-eq0.false)) c.if-s-at-lt-HEAD_SIZE.false c.list_at-list.ensures.is)) c.args.base c.requires.3).0.1, rw z (own-few ((is-list _ _ _ _ _ (sym c.first_at.ensures.is ∙ c.in-Long.is) (sym c.shaped_kind.ensures ∙ c.if-shaped_kind.true) (omega (arith, c.if-left-eq0.false)) c.if-s-at-lt-HEAD_SIZE.false c.list_at-list.ensures.is)) c.args.base c.requires.3 c.requires.5), own_room ((is-list _ _ _ _ _ (sym c.first_at.ensures.is ∙ c.in-Long.is) (sym c.shaped_kind.ensures ∙ c.if-shaped_kind.true) (omega (arith, c.if-left-eq0.false)) c.if-s-at-lt-HEAD_SIZE.false c.list_at-list.ensures.is)) c.args.base c.args.section _ _ (omega (arith, c.requires.4, c.put_items-all.auto)) c.put_items-all.ensures.wrote.after)
 
 pub put_at-plus-requires-then-shaped_kind : goal.put_at-plus-requires-then-shaped_kind
-put_at-plus-requires-then-shaped_kind t c = sum-few (found l) c.args.base c.put_items-all.ensures c.own_counts.ensures c.requires.3
+put_at-plus-requires-then-shaped_kind t c = sum-few ((is-list _ _ _ _ _ (sym c.first_at.ensures.is ∙ c.in-Long.is) (sym c.shaped_kind.ensures ∙ c.if-shaped_kind.true) (omega (arith, c.if-left-eq0.false)) c.if-s-at-lt-HEAD_SIZE.false c.list_at-list.ensures.is)) c.args.base c.put_items-all.ensures c.own_counts.ensures c.requires.3
 
 pub put_at-returns-then-shaped_kind : goal.put_at-returns-then-shaped_kind
-put_at-returns-then-shaped_kind t c = list_put (found l) c.args.base c.put_items-all.ensures c.own_counts.ensures c.requires.4 (rw (found l).has-shapes at c.put_list-end.ensures) c.plus-then-shaped_kind.ensures
+put_at-returns-then-shaped_kind t c = list_put ((is-list _ _ _ _ _ (sym c.first_at.ensures.is ∙ c.in-Long.is) (sym c.shaped_kind.ensures ∙ c.if-shaped_kind.true) (omega (arith, c.if-left-eq0.false)) c.if-s-at-lt-HEAD_SIZE.false c.list_at-list.ensures.is)) c.args.base c.put_items-all.ensures c.own_counts.ensures c.requires.4 (rw ((is-list _ _ _ _ _ (sym c.first_at.ensures.is ∙ c.in-Long.is) (sym c.shaped_kind.ensures ∙ c.if-shaped_kind.true) (omega (arith, c.if-left-eq0.false)) c.if-s-at-lt-HEAD_SIZE.false c.list_at-list.ensures.is)).has-shapes at c.put_list-end.ensures) c.plus-then-shaped_kind.ensures
 
 pub put_at-put_plain-end-requires : goal.put_at-put_plain-end-requires
 put_at-put_plain-end-requires t c = let h = rw c.in-Long.is at c.first_at.ensures.inside in
@@ -97,7 +83,7 @@ put_at-returns-in-Unassigned t c = put-none (shape-none _ _ _ _ (sym c.first_at.
 
 pub put_at-returns-in-Short : goal.put_at-returns-in-Short
 put_at-returns-in-Short t c = let h = rw c.in-Short.is at c.first_at.ensures.inside in
-    rw (shape-short pieces c.args.left c.args.s.now c.args.at (sym c.first_at.ensures.is ∙ c.in-Short.is))
+    rw (shape-short pieces c.args.false c.args.s.now c.args.at (sym c.first_at.ensures.is ∙ c.in-Short.is))
     (record { wrote = c.put_short-end.ensures; next_is = refl; there_is = c.plus.ensures ∙ rw c.short_counts.ensures; inside = omega (arith, h.0) })
 
 pub put_at-returns-else-shaped_kind : goal.put_at-returns-else-shaped_kind
@@ -123,32 +109,18 @@ abbrev put-items-below : ℕ → In 2 put-items-kinds.ps
 put-items-below t =
     and 2 put-items-kinds.ps (falls 2 put-items-kinds.ps ◌<◌ μ-put-items t) put-items.Pre
 
--- a list was found, and its items start inside
-found : (l : put-at-lts.After-list-at (put-at-calls t) (put-at-at t) put-at.Post)
-    → let g = l.before.before.before.before.before.before in let q = g.before.before.before.before.before in IsList q.args.left q.args.s.now q.args.at g.kind.given.0.0 l.list_at.result
-found l =
-    let x = l.before in let e = x.before in let b = e.before in let k = b.before in let g = k.before.before in let f = g.before.before in
-    is-list _ _ _ _ _ (sym f.first-at.ensures.0 ∙ g.kind.given.1) (sym k.shaped-kind.ensures ∙ b.if1.true) (omega (arith, e.if2.false)) x.if3.false l.list_at.ensures.0
-
-inside : (l : put-at-lts.After-list-at (put-at-calls t) (put-at-at t) put-at.Post) → l.list_at.result.from ≤ length l.before.before.before.before.before.before.before.before.before.before.before.args.s.now
-inside l = omega (arith, l.list_at.ensures.1.1, l.before.if3.false)
-
--- where the name ends is inside
-named-inside : (n : put-items-lts.After-past-name (put-items-calls t) (put-items-at t) put-items.Post put-items-Inv-loop put-items-μ-loop) → n.past-name.result ≤ length n.before.before.before.before.before.args.s.now
-named-inside n = omega (arith, n.past-name.ensures.1.1, n.before.before.loop.invariant.inside)
-
 pub put_items-loop-due-init : goal.put_items-loop-due-init
 put_items-loop-due-init t c = turn-first _ _ _ _ _ _ _ _ _ c.requires.0 c.requires.6
 
 pub put_items-overflow_add-text : goal.put_items-overflow_add-text
-put_items-overflow_add-text t c = let y = turn-text c.loop-due.invariant c.requires.4 c.requires.5 c.loop-due-test.true c.past_name-start.ensures.is c.past_name-start.ensures.inside.0 (named-inside n) c.text_size-text.ensures in
+put_items-overflow_add-text t c = let y = turn-text c.loop-due.invariant c.requires.4 c.requires.5 c.loop-due-test.true c.past_name-start.ensures.is c.past_name-start.ensures.inside.0 ((omega (arith, c.past_name-start.ensures.inside.1, c.loop-due.invariant.inside))) c.text_size-text.ensures in
     record { fits = omega arith }
 
 pub put_items-put_at-part-requires : goal.put_items-put_at-part-requires
-put_items-put_at-part-requires t c = (omega (arith, c.requires.0, c.loop-due-test.true, c.loop-due.invariant.fewer), (named-inside n, c.requires.1, c.requires.2, turn-few c.loop-due.invariant c.requires.4 c.requires.5 c.loop-due-test.true c.past_name-start.ensures.is, turn-room c.loop-due.invariant c.requires.4 c.requires.5 c.loop-due-test.true c.past_name-start.ensures.is, c.loop-due.invariant.linked))
+put_items-put_at-part-requires t c = (omega (arith, c.loop-due-test.true, c.loop-due.invariant.fewer), ((omega (arith, c.past_name-start.ensures.inside.1, c.loop-due.invariant.inside)), c.requires.1, c.requires.2, turn-few c.loop-due.invariant c.requires.4 c.requires.5 c.loop-due-test.true c.past_name-start.ensures.is, turn-room c.loop-due.invariant c.requires.4 c.requires.5 c.loop-due-test.true c.past_name-start.ensures.is, c.loop-due.invariant.linked))
 
 pub put_items-loop-due-preserved : goal.put_items-loop-due-preserved
-put_items-loop-due-preserved t c = turn_on c.loop-due.invariant c.requires.4 c.requires.5 c.loop-due-test.true c.past_name-start.ensures.is c.past_name-start.ensures.inside.0 (named-inside n) c.text_size-text.ensures c.put_at-part.ensures (omega (arith, c.put_at-part.auto)) (shape-linked _ _ _)
+put_items-loop-due-preserved t c = turn_on c.loop-due.invariant c.requires.4 c.requires.5 c.loop-due-test.true c.past_name-start.ensures.is c.past_name-start.ensures.inside.0 ((omega (arith, c.past_name-start.ensures.inside.1, c.loop-due.invariant.inside))) c.text_size-text.ensures c.put_at-part.ensures (omega (arith, c.put_at-part.auto)) (shape-linked _ _ _)
 
 pub put_items-returns : goal.put_items-returns
 put_items-returns t c = turn_end c.loop-due.invariant c.loop-due-test.false

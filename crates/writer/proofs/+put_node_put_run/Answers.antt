@@ -51,7 +51,7 @@ put_node-put_count-from-requires t c = let r = list-room _ _ _ _ c.requires.0 _ 
 
 pub put_node-put_run-end-requires : goal.put_node-put_run-end-requires
 put_node-put_run-end-requires t c = let r = list-room _ _ _ _ c.requires.0 _ c.requires.1 _ c.node_at-node.ensures.is _ _ _ _ (sym c.form_of.ensures ∙ c.in-List.is) _ _ c.requires.2 in
-    (omega (arith, c.requires.0, c.node_at-node.ensures.small.1), (c.requires.0, (node-linked _ _ _ _ c.requires.0 _ c.requires.1 _ c.node_at-node.ensures.is _ _ _ _ (sym c.form_of.ensures ∙ c.in-List.is)).0, (omega (arith, r.0, c.put_count-from.ensures.after, c.put_count-from.auto), omega (arith, r.1))))
+    (omega (arith, c.node_at-node.ensures.small.1), (c.requires.0, (node-linked _ _ _ _ c.requires.0 _ c.requires.1 _ c.node_at-node.ensures.is _ _ _ _ (sym c.form_of.ensures ∙ c.in-List.is)).0, (omega (arith, r.0, c.put_count-from.ensures.after, c.put_count-from.auto), omega (arith, r.1))))
 
 pub put_node-put_head-requires : goal.put_node-put_head-requires
 put_node-put_head-requires t c = let r = list-room _ _ _ _ c.requires.0 _ c.requires.1 _ c.node_at-node.ensures.is _ _ _ _ (sym c.form_of.ensures ∙ c.in-List.is) _ _ c.requires.2 in
@@ -104,7 +104,7 @@ put_run-loop-due-preserved-in-Texts t c = turn_on _ _ _ _ _ _ _ _ _ _ _ _ _ _ c.
 pub put_run-put_node-to-requires : goal.put_run-put_node-to-requires
 put_run-put_node-to-requires t c = let b = bare-before _ _ _ _ c.requires.0 _ _ _ _ c.loop-due.invariant.linked c.loop-due-test.true _ c.link_at-link.ensures c.in-Bare.is in
     let r = room-child _ _ _ _ _ _ _ _ _ _ _ _ _ _ c.loop-due.invariant c.requires.2 c.loop-due-test.true _ c.link_at-link.ensures _ (bare-child _ _ _ _ _ _ c.in-Bare.is) in
-    (omega (arith, c.requires.0, c.loop-due-test.true, c.loop-due.invariant.fewer), (c.requires.0, omega (arith, c.loop-due.invariant.linked.below), (omega (arith, r.0, c.put_name-after.ensures.after, c.put_name-after.auto), r.1)))
+    (omega (arith, c.loop-due-test.true, c.loop-due.invariant.fewer), (c.requires.0, omega (arith, c.loop-due.invariant.linked.below), (omega (arith, r.0, c.put_name-after.ensures.after, c.put_name-after.auto), r.1)))
 
 pub put_run-loop-due-preserved-in-Bare : goal.put_run-loop-due-preserved-in-Bare
 put_run-loop-due-preserved-in-Bare t c = turn_on _ _ _ _ _ _ _ _ _ _ _ _ _ _ c.loop-due.invariant c.requires.2 c.loop-due-test.true _ c.link_at-link.ensures _ (bare-child _ _ _ _ _ _ c.in-Bare.is) _ _ _ _ c.put_name-after.ensures.wrote (omega (arith, c.put_name-after.auto)) c.put_name-after.ensures.after c.put_node-to.ensures.wrote (omega (arith, c.put_node-to.auto)) c.put_node-to.ensures.after
@@ -112,7 +112,7 @@ put_run-loop-due-preserved-in-Bare t c = turn_on _ _ _ _ _ _ _ _ _ _ _ _ _ _ c.l
 pub put_run-put_node-to-requires-in-Named : goal.put_run-put_node-to-requires-in-Named
 put_run-put_node-to-requires-in-Named t c = let b = named-before _ _ _ _ c.requires.0 _ _ _ _ c.loop-due.invariant.linked c.loop-due-test.true _ c.link_at-link.ensures c.in-Named.is in
     let r = room-child _ _ _ _ _ _ _ _ _ _ _ _ _ _ c.loop-due.invariant c.requires.2 c.loop-due-test.true _ c.link_at-link.ensures _ (named-child _ _ _ _ _ _ c.in-Named.is) in
-    (omega (arith, c.requires.0, c.loop-due-test.true, c.loop-due.invariant.fewer), (c.requires.0, omega (arith, c.loop-due.invariant.linked.below), (omega (arith, r.0, c.put_name-after.ensures.after, c.put_name-after.auto), r.1)))
+    (omega (arith, c.loop-due-test.true, c.loop-due.invariant.fewer), (c.requires.0, omega (arith, c.loop-due.invariant.linked.below), (omega (arith, r.0, c.put_name-after.ensures.after, c.put_name-after.auto), r.1)))
 
 pub put_run-loop-due-preserved : goal.put_run-loop-due-preserved
 put_run-loop-due-preserved t c = turn_on _ _ _ _ _ _ _ _ _ _ _ _ _ _ c.loop-due.invariant c.requires.2 c.loop-due-test.true _ c.link_at-link.ensures _ (named-child _ _ _ _ _ _ c.in-Named.is) _ _ _ _ c.put_name-after.ensures.wrote (omega (arith, c.put_name-after.auto)) c.put_name-after.ensures.after c.put_node-to-in-Named.ensures.wrote (omega (arith, c.put_node-to-in-Named.auto)) c.put_node-to-in-Named.ensures.after
