@@ -18,11 +18,11 @@ pub count_at-bounds-s-at : goal.count_at-bounds-s-at
 count_at-bounds-s-at t c = let h = rw c.in-Short.is at c.first_at.ensures.inside in h.0
 
 pub count_at-returns-then-left-eq0 : goal.count_at-returns-then-left-eq0
-count_at-returns-then-left-eq0 t c = rw (list-deep pieces c.args.false c.args.s.now c.args.at (sym c.first_at.ensures.is ∙ c.in-Long.is) (sym c.shaped_kind.ensures ∙ c.if-shaped_kind.true) c.if-left-eq0.true)
+count_at-returns-then-left-eq0 t c = rw (list-deep pieces c.args.left c.args.s.now c.args.at (sym c.first_at.ensures.is ∙ c.in-Long.is) (sym c.shaped_kind.ensures ∙ c.if-shaped_kind.true) c.if-left-eq0.true)
     (record { next_is = refl; counts_is = c.no_counts-then-left-eq0.ensures; inside = c.requires.0 })
 
 pub count_at-returns-then-s-at-lt-HEAD_SIZE : goal.count_at-returns-then-s-at-lt-HEAD_SIZE
-count_at-returns-then-s-at-lt-HEAD_SIZE t c = rw (list-cut pieces c.args.false c.args.s.now c.args.at (sym c.first_at.ensures.is ∙ c.in-Long.is) (sym c.shaped_kind.ensures ∙ c.if-shaped_kind.true) (omega (arith, c.if-left-eq0.false)) c.if-s-at-lt-HEAD_SIZE.true)
+count_at-returns-then-s-at-lt-HEAD_SIZE t c = rw (list-cut pieces c.args.left c.args.s.now c.args.at (sym c.first_at.ensures.is ∙ c.in-Long.is) (sym c.shaped_kind.ensures ∙ c.if-shaped_kind.true) (omega (arith, c.if-left-eq0.false)) c.if-s-at-lt-HEAD_SIZE.true)
     (record { next_is = refl; counts_is = c.no_counts-then-s-at-lt-HEAD_SIZE.ensures; inside = c.requires.0 })
 
 pub count_at-count_items-all-requires : goal.count_at-count_items-all-requires
@@ -39,12 +39,12 @@ count_at-count_plain-requires t c = let h = rw c.in-Long.is at c.first_at.ensure
     (h, c.requires.1, sym c.first_at.ensures.is ∙ c.in-Long.is, sym c.shaped_kind.ensures ∙ c.if-shaped_kind.false)
 
 pub count_at-returns-in-Unassigned : goal.count_at-returns-in-Unassigned
-count_at-returns-in-Unassigned t c = rw (shape-none pieces c.args.false c.args.s.now c.args.at (sym c.first_at.ensures.is ∙ c.in-Unassigned.is))
+count_at-returns-in-Unassigned t c = rw (shape-none pieces c.args.left c.args.s.now c.args.at (sym c.first_at.ensures.is ∙ c.in-Unassigned.is))
     (record { next_is = refl; counts_is = c.no_counts.ensures; inside = c.requires.0 })
 
 pub count_at-returns-in-Short : goal.count_at-returns-in-Short
 count_at-returns-in-Short t c = let h = rw c.in-Short.is at c.first_at.ensures.inside in
-    rw (shape-short pieces c.args.false c.args.s.now c.args.at (sym c.first_at.ensures.is ∙ c.in-Short.is))
+    rw (shape-short pieces c.args.left c.args.s.now c.args.at (sym c.first_at.ensures.is ∙ c.in-Short.is))
     (record { next_is = refl; counts_is = c.short_counts.ensures; inside = omega (arith, h.0) })
 
 pub count_at-returns-else-shaped_kind : goal.count_at-returns-else-shaped_kind

@@ -41,4 +41,4 @@ returns-in-Written-clause-buffer c = let m = c.measure-size in let f = found c.a
     let room = length c.args.out.now in
     let v = filled-comes room c.requires.0 f (sym c.in-Written.is ∙ c.verdict.ensures) in
     let w = rw f.is at c.write.ensures in
-    w.1 ∙ buffer-made _ _
+    rw (answer-is room c.requires.0 f, v.0) (w.1 ∙ buffer-made _ _)

@@ -27,4 +27,4 @@ pub returns-clause-after : goal.returns-clause-after
 returns-clause-after c = let h = c.entry_at-entry-2.ensures in let a = c.args in rw c.if-filled.false (ap (λ n. a.to + n) (part_length h))
 
 pub returns-clause-wrote : goal.returns-clause-wrote
-returns-clause-wrote c = let h = c.entry_at-entry-2.ensures in let a = c.args in rw h.is at c.put_part.ensures
+returns-clause-wrote c = let h = c.entry_at-entry-2.ensures in let a = c.args in rw c.if-filled.false (rw h.is at c.put_part.ensures)

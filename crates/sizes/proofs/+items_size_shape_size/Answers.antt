@@ -13,29 +13,6 @@ use Rattle.steps.proofs.Passing.{shape-none, shape-short, list-deep, list-cut, i
 use Rattle.sizes.proofs.Sums.{Going, room, turn, nothing-inside, short-inside, list-is}
 use Rattle.sizes.proofs.+items_size_shape_size.Goals as goal
 
--- levels left and items left fall as a pair: there are fewer than 65,536 items
-abbrev μ-items-size : Measures 3 items-size-kinds.ps ℕ
-μ-items-size κs a = a.1.1.1.1.0 * 65536 + a.1.1.1.1.1.1.0
-
-abbrev μ-shape-size : Measures 3 shape-size-kinds.ps ℕ
-μ-shape-size κs a = a.1.1.1.1.0 * 65536
-
-abbrev items-size-at : ℕ → In 3 items-size-kinds.ps
-items-size-at t =
-    and 3 items-size-kinds.ps (is 3 items-size-kinds.ps μ-items-size t) items-size.Pre
-
-abbrev items-size-below : ℕ → In 3 items-size-kinds.ps
-items-size-below t =
-    and 3 items-size-kinds.ps (falls 3 items-size-kinds.ps ◌<◌ μ-items-size t) items-size.Pre
-
-abbrev shape-size-at : ℕ → In 3 shape-size-kinds.ps
-shape-size-at t =
-    and 3 shape-size-kinds.ps (is 3 shape-size-kinds.ps μ-shape-size t) Shape-size.Pre
-
-abbrev shape-size-below : ℕ → In 3 shape-size-kinds.ps
-shape-size-below t =
-    and 3 shape-size-kinds.ps (falls 3 shape-size-kinds.ps ◌<◌ μ-shape-size t) Shape-size.Pre
-
 pub items_size-loop-due-init : goal.items_size-loop-due-init
 items_size-loop-due-init t c = (search rules, search rules, search rules, search rules, search rules, refl)
 
@@ -78,7 +55,7 @@ items_size-loop-due-preserved-in-Short t c = let a = c.args in let h = rw c.in-S
 -- an item with a payload
 pub items_size-shape_size-part-requires : goal.items_size-shape_size-part-requires
 items_size-shape_size-part-requires t c = let p = c.requires in let h = rw c.in-Long.is at c.first_at.ensures.inside in
-    (omega (arith, p.0), (p.1.0, p.1.1, h, p.1.3, sym c.first_at.ensures.is ∙ c.in-Long.is))
+    (omega (arith), (p.0, p.1, h, p.3, sym c.first_at.ensures.is ∙ c.in-Long.is))
 
 pub items_size-with_item-sum-requires-in-Long : goal.items_size-with_item-sum-requires-in-Long
 items_size-with_item-sum-requires-in-Long t c = let a = c.args in let i : c.past_name-start.result ≤ length a.s.now = search rules in
@@ -97,29 +74,6 @@ items_size-returns-clause-is t c = let a = c.args in let g = c.loop-due.invarian
 -- all items
 pub items_size-returns-clause-inside : goal.items_size-returns-clause-inside
 items_size-returns-clause-inside t c = let a = c.args in let g = c.loop-due.invariant in (g.0, g.1, g.2, g.3)
-
--- levels left and items left fall as a pair: there are fewer than 65,536 items
-abbrev μ-items-size : Measures 3 items-size-kinds.ps ℕ
-μ-items-size κs a = a.1.1.1.1.0 * 65536 + a.1.1.1.1.1.1.0
-
-abbrev μ-shape-size : Measures 3 shape-size-kinds.ps ℕ
-μ-shape-size κs a = a.1.1.1.1.0 * 65536
-
-abbrev items-size-at : ℕ → In 3 items-size-kinds.ps
-items-size-at t =
-    and 3 items-size-kinds.ps (is 3 items-size-kinds.ps μ-items-size t) items-size.Pre
-
-abbrev items-size-below : ℕ → In 3 items-size-kinds.ps
-items-size-below t =
-    and 3 items-size-kinds.ps (falls 3 items-size-kinds.ps ◌<◌ μ-items-size t) items-size.Pre
-
-abbrev shape-size-at : ℕ → In 3 shape-size-kinds.ps
-shape-size-at t =
-    and 3 shape-size-kinds.ps (is 3 shape-size-kinds.ps μ-shape-size t) Shape-size.Pre
-
-abbrev shape-size-below : ℕ → In 3 shape-size-kinds.ps
-shape-size-below t =
-    and 3 shape-size-kinds.ps (falls 3 shape-size-kinds.ps ◌<◌ μ-shape-size t) Shape-size.Pre
 
 -- a list with no level left for it
 pub shape_size-returns-then-left-eq0-clause-is : goal.shape_size-returns-then-left-eq0-clause-is
@@ -141,7 +95,7 @@ shape_size-returns-then-s-at-lt-HEAD_SIZE-clause-inside t c = let a = c.args in 
 
 -- a list
 pub shape_size-items_size-all-requires : goal.shape_size-items_size-all-requires
-shape_size-items_size-all-requires t c = let p = c.requires in (omega (arith, p.0), (p.1.0, p.1.1, search rules, search rules, search rules))
+shape_size-items_size-all-requires t c = let p = c.requires in (omega (arith), (p.0, p.1, search rules, search rules, search rules))
 
 pub shape_size-returns-then-shaped_kind : goal.shape_size-returns-then-shaped_kind
 shape_size-returns-then-shaped_kind t c = let a = c.args in list-is (blank_in a.sheet.now) a.left a.s.now a.at a.kind c.list_at-list.result c.items_size-all.result c.list_size.result
@@ -150,7 +104,7 @@ shape_size-returns-then-shaped_kind t c = let a = c.args in list-is (blank_in a.
 
 -- a payload that is no list
 pub shape_size-plain_size-requires : goal.shape_size-plain_size-requires
-shape_size-plain_size-requires t c = let p = c.requires in (p.1.0, p.1.2, p.1.4, sym c.shaped_kind.ensures ∙ c.if-shaped_kind.false)
+shape_size-plain_size-requires t c = let p = c.requires in (p.0, p.2, p.4, sym c.shaped_kind.ensures ∙ c.if-shaped_kind.false)
 
 pub shape_size-returns : goal.shape_size-returns
 shape_size-returns t c = c.plain_size.ensures

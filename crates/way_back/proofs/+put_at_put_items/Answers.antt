@@ -13,26 +13,6 @@ use Rattle.counts.proofs.Counting.{IsList, is-list}
 use Rattle.way_back.proofs.Putting.{put-none, Turn, turn-first, turn-few, turn-room, turn-text, turn_on, turn_end, list-few, own-few, items-room, own_room, sum-few, list_put}
 use Rattle.way_back.proofs.+put_at_put_items.Goals as goal
 
--- levels left and items left fall as a pair: there are fewer than 65,536 items
-abbrev μ-put-at : Measures 2 put-at-kinds.ps ℕ
-μ-put-at κs a = a.1.1.1.0 * 65536
-
-abbrev μ-put-items : Measures 2 put-items-kinds.ps ℕ
-μ-put-items κs a = a.1.1.1.0 * 65536 + a.1.1.1.1.1.0
-
-abbrev put-at-at : ℕ → In 2 put-at-kinds.ps
-put-at-at t = and 2 put-at-kinds.ps (is 2 put-at-kinds.ps μ-put-at t) put-at.Pre
-
-abbrev put-at-below : ℕ → In 2 put-at-kinds.ps
-put-at-below t = and 2 put-at-kinds.ps (falls 2 put-at-kinds.ps ◌<◌ μ-put-at t) put-at.Pre
-
-abbrev put-items-at : ℕ → In 2 put-items-kinds.ps
-put-items-at t = and 2 put-items-kinds.ps (is 2 put-items-kinds.ps μ-put-items t) put-items.Pre
-
-abbrev put-items-below : ℕ → In 2 put-items-kinds.ps
-put-items-below t =
-    and 2 put-items-kinds.ps (falls 2 put-items-kinds.ps ◌<◌ μ-put-items t) put-items.Pre
-
 -- In the answers q is the start, f the first byte read, m and g what it says, k tells the kind, b, e and x are the tests before the list, l is its
 -- listing, v its items written, u its node written, w a shape of one byte or with another payload written, and n what was counted; in put-items' o is
 -- the loop, n the name passed over, p its text measured and v the shape written.
@@ -40,11 +20,11 @@ pub put_at-bounds-s-at : goal.put_at-bounds-s-at
 put_at-bounds-s-at t c = let h = rw c.in-Short.is at c.first_at.ensures.inside in search rules
 
 pub put_at-put_short-end-requires : goal.put_at-put_short-end-requires
-put_at-put_short-end-requires t c = let z = shape-short pieces c.args.false c.args.s.now c.args.at (sym c.first_at.ensures.is ∙ c.in-Short.is) in
+put_at-put_short-end-requires t c = let z = shape-short pieces c.args.left c.args.s.now c.args.at (sym c.first_at.ensures.is ∙ c.in-Short.is) in
     (rw z at c.requires.3, rw z at c.requires.4)
 
 pub put_at-plus-requires : goal.put_at-plus-requires
-put_at-plus-requires t c = let z = shape-short pieces c.args.false c.args.s.now c.args.at (sym c.first_at.ensures.is ∙ c.in-Short.is) in
+put_at-plus-requires t c = let z = shape-short pieces c.args.left c.args.s.now c.args.at (sym c.first_at.ensures.is ∙ c.in-Short.is) in
     rw c.short_counts.ensures (rw z at c.requires.3)
 
 pub put_at-returns-then-left-eq0 : goal.put_at-returns-then-left-eq0
@@ -53,7 +33,7 @@ put_at-returns-then-left-eq0 t c = let y = sym c.shaped_kind.ensures ∙ c.if-sh
 
 pub put_at-returns-then-s-at-lt-HEAD_SIZE : goal.put_at-returns-then-s-at-lt-HEAD_SIZE
 put_at-returns-then-s-at-lt-HEAD_SIZE t c = let y = sym c.shaped_kind.ensures ∙ c.if-shaped_kind.true in
-    put-none (list-cut _ c.args.false _ _ (sym c.first_at.ensures.is ∙ c.in-Long.is) y (omega (arith, c.if-left-eq0.false)) c.if-s-at-lt-HEAD_SIZE.true) c.requires.0
+    put-none (list-cut _ c.args.left _ _ (sym c.first_at.ensures.is ∙ c.in-Long.is) y (omega (arith, c.if-left-eq0.false)) c.if-s-at-lt-HEAD_SIZE.true) c.requires.0
 
 pub put_at-put_items-all-requires : goal.put_at-put_items-all-requires
 put_at-put_items-all-requires t c = (omega (arith, c.if-left-eq0.false, c.list_at-list.ensures.inside.2), ((omega (arith, c.list_at-list.ensures.inside.1, c.if-s-at-lt-HEAD_SIZE.false)), c.requires.1, omega (arith, c.requires.2), c.list_at-list.ensures.inside.2, list-few ((is-list _ _ _ _ _ (sym c.first_at.ensures.is ∙ c.in-Long.is) (sym c.shaped_kind.ensures ∙ c.if-shaped_kind.true) (omega (arith, c.if-left-eq0.false)) c.if-s-at-lt-HEAD_SIZE.false c.list_at-list.ensures.is)) c.args.base c.requires.3, items-room ((is-list _ _ _ _ _ (sym c.first_at.ensures.is ∙ c.in-Long.is) (sym c.shaped_kind.ensures ∙ c.if-shaped_kind.true) (omega (arith, c.if-left-eq0.false)) c.if-s-at-lt-HEAD_SIZE.false c.list_at-list.ensures.is)) c.args.base c.args.section _ _ c.requires.4, c.requires.5))
@@ -83,31 +63,11 @@ put_at-returns-in-Unassigned t c = put-none (shape-none _ _ _ _ (sym c.first_at.
 
 pub put_at-returns-in-Short : goal.put_at-returns-in-Short
 put_at-returns-in-Short t c = let h = rw c.in-Short.is at c.first_at.ensures.inside in
-    rw (shape-short pieces c.args.false c.args.s.now c.args.at (sym c.first_at.ensures.is ∙ c.in-Short.is))
+    rw (shape-short pieces c.args.left c.args.s.now c.args.at (sym c.first_at.ensures.is ∙ c.in-Short.is))
     (record { wrote = c.put_short-end.ensures; next_is = refl; there_is = c.plus.ensures ∙ rw c.short_counts.ensures; inside = omega (arith, h.0) })
 
 pub put_at-returns-else-shaped_kind : goal.put_at-returns-else-shaped_kind
 put_at-returns-else-shaped_kind t c = let v = c.count_plain-part.ensures in record { wrote = c.put_plain-end.ensures; next_is = v.next_is; there_is = c.plus-in-Long.ensures ∙ rw v.counts_is; inside = v.inside }
-
--- levels left and items left fall as a pair: there are fewer than 65,536 items
-abbrev μ-put-at : Measures 2 put-at-kinds.ps ℕ
-μ-put-at κs a = a.1.1.1.0 * 65536
-
-abbrev μ-put-items : Measures 2 put-items-kinds.ps ℕ
-μ-put-items κs a = a.1.1.1.0 * 65536 + a.1.1.1.1.1.0
-
-abbrev put-at-at : ℕ → In 2 put-at-kinds.ps
-put-at-at t = and 2 put-at-kinds.ps (is 2 put-at-kinds.ps μ-put-at t) put-at.Pre
-
-abbrev put-at-below : ℕ → In 2 put-at-kinds.ps
-put-at-below t = and 2 put-at-kinds.ps (falls 2 put-at-kinds.ps ◌<◌ μ-put-at t) put-at.Pre
-
-abbrev put-items-at : ℕ → In 2 put-items-kinds.ps
-put-items-at t = and 2 put-items-kinds.ps (is 2 put-items-kinds.ps μ-put-items t) put-items.Pre
-
-abbrev put-items-below : ℕ → In 2 put-items-kinds.ps
-put-items-below t =
-    and 2 put-items-kinds.ps (falls 2 put-items-kinds.ps ◌<◌ μ-put-items t) put-items.Pre
 
 pub put_items-loop-due-init : goal.put_items-loop-due-init
 put_items-loop-due-init t c = turn-first _ _ _ _ _ _ _ _ _ c.requires.0 c.requires.6

@@ -54,4 +54,5 @@ returns-else-out-needed-clause-is c = let a = c.args in let s = a.bytes.now in
 pub returns-else-out-needed-clause-buffer : goal.returns-else-out-needed-clause-buffer
 returns-else-out-needed-clause-buffer c = let a = c.args in let s = a.bytes.now in
     let f = found s (λ i. omega (arith, c.type_inv.bytes i)) _ _ (sym c.read.ensures ∙ c.in-Accepted.is) in
-    c.put_table-length.ensures.wrote ∙ buffer-made _ _
+    rw (answer-made s f c.count_at.result.counts c.count_at.ensures.counts_is (length a.out.now) (omega (arith, c.table_size-needed.ensures, c.if-out-needed.false)))
+    (c.put_table-length.ensures.wrote ∙ buffer-made _ _)

@@ -12,26 +12,6 @@ use Rattle.writer.proofs.Turns.{Turn, turn-first, turn_last, bare-child, named-c
 use Rattle.writer.proofs.Heads.{list-room, list_wrote}
 use Rattle.writer.proofs.+put_node_put_run.Goals as goal
 
--- nodes and links left fall as a pair: a node has fewer than 65,536 links
-abbrev μ-put-node : Measures 3 put-node-kinds.ps ℕ
-μ-put-node κs a = (a.1.1.1.1.0 + 1) * 65536
-
-abbrev μ-put-run : Measures 3 put-run-kinds.ps ℕ
-μ-put-run κs a = a.1.1.1.1.1.0 * 65536 + a.1.1.1.1.1.1.1.0
-
-abbrev put-node-at : ℕ → In 3 put-node-kinds.ps
-put-node-at t = and 3 put-node-kinds.ps (is 3 put-node-kinds.ps μ-put-node t) put-node.Pre
-
-abbrev put-node-below : ℕ → In 3 put-node-kinds.ps
-put-node-below t =
-    and 3 put-node-kinds.ps (falls 3 put-node-kinds.ps ◌<◌ μ-put-node t) put-node.Pre
-
-abbrev put-run-at : ℕ → In 3 put-run-kinds.ps
-put-run-at t = and 3 put-run-kinds.ps (is 3 put-run-kinds.ps μ-put-run t) put-run.Pre
-
-abbrev put-run-below : ℕ → In 3 put-run-kinds.ps
-put-run-below t = and 3 put-run-kinds.ps (falls 3 put-run-kinds.ps ◌<◌ μ-put-run t) put-run.Pre
-
 -- In the answers q is the start, n the node read, f its form taken, m what that says; w, v and u are the count, the links and the head written. In
 -- put-run's o is the loop, k the link read, p its name written, m what its way says, v its target written.
 pub put_node-form_of-requires : goal.put_node-form_of-requires
@@ -63,7 +43,7 @@ put_node-returns-in-Byte-clause-after t c = let z = node-by-form _ _ _ _ c.requi
 
 pub put_node-returns-in-Byte-clause-wrote : goal.put_node-returns-in-Byte-clause-wrote
 put_node-returns-in-Byte-clause-wrote t c = let z = node-by-form _ _ _ _ c.requires.0 _ c.requires.1 _ c.node_at-node.ensures.is _ (sym c.form_of.ensures ∙ c.in-Byte.is) in
-    c.put_byte.ensures
+    rw z (c.put_byte.ensures)
 
 pub put_node-returns-in-Blank : goal.put_node-returns-in-Blank
 put_node-returns-in-Blank t c = let z = node-by-form _ _ _ _ c.requires.0 _ c.requires.1 _ c.node_at-node.ensures.is _ (sym c.form_of.ensures ∙ c.in-Blank.is) in
@@ -71,26 +51,6 @@ put_node-returns-in-Blank t c = let z = node-by-form _ _ _ _ c.requires.0 _ c.re
 
 pub put_node-returns-in-List : goal.put_node-returns-in-List
 put_node-returns-in-List t c = list_wrote _ _ _ _ c.requires.0 _ c.requires.1 _ c.node_at-node.ensures.is _ _ _ _ (sym c.form_of.ensures ∙ c.in-List.is) _ _ c.requires.2 _ _ _ _ _ _ refl c.put_count-from.ensures.wrote c.put_count-from.ensures.after c.put_run-end.ensures.wrote c.put_run-end.ensures.after c.put_head.ensures
-
--- nodes and links left fall as a pair: a node has fewer than 65,536 links
-abbrev μ-put-node : Measures 3 put-node-kinds.ps ℕ
-μ-put-node κs a = (a.1.1.1.1.0 + 1) * 65536
-
-abbrev μ-put-run : Measures 3 put-run-kinds.ps ℕ
-μ-put-run κs a = a.1.1.1.1.1.0 * 65536 + a.1.1.1.1.1.1.1.0
-
-abbrev put-node-at : ℕ → In 3 put-node-kinds.ps
-put-node-at t = and 3 put-node-kinds.ps (is 3 put-node-kinds.ps μ-put-node t) put-node.Pre
-
-abbrev put-node-below : ℕ → In 3 put-node-kinds.ps
-put-node-below t =
-    and 3 put-node-kinds.ps (falls 3 put-node-kinds.ps ◌<◌ μ-put-node t) put-node.Pre
-
-abbrev put-run-at : ℕ → In 3 put-run-kinds.ps
-put-run-at t = and 3 put-run-kinds.ps (is 3 put-run-kinds.ps μ-put-run t) put-run.Pre
-
-abbrev put-run-below : ℕ → In 3 put-run-kinds.ps
-put-run-below t = and 3 put-run-kinds.ps (falls 3 put-run-kinds.ps ◌<◌ μ-put-run t) put-run.Pre
 
 pub put_run-loop-due-init : goal.put_run-loop-due-init
 put_run-loop-due-init t c = turn-first _ _ _ _ _ _ _ _ _ _ c.requires.1

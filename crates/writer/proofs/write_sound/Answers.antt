@@ -56,4 +56,4 @@ pub returns-in-Written-clause-buffer : goal.returns-in-Written-clause-buffer
 returns-in-Written-clause-buffer c = let a = c.args in let r = root-encoded a.nodes.now a.rest.now a.links a.names a.count c.requires.1 in
     let v = found-comes (found e) (length a.out.now) (sym c.in-Written.is ∙ c.verdict.ensures) in
     let w = rw r at c.put_node.ensures in
-    w.1 ∙ buffer-made _ _
+    rw v.0 (w.1 ∙ buffer-made _ _)

@@ -18,27 +18,6 @@ use Rattle.writes.proofs.Turns.{Turn, room-name, room-shape, turn_on, turn-made}
 use Rattle.writes.proofs.Long.{packed-room, packed-wrote, long-room, long-wrote}
 use Rattle.writes.proofs.+put_items_put_shape.Goals as goal
 
--- levels left and items left fall as a pair: there are fewer than 65,536 items
-abbrev μ-put-items : Measures 4 put-items-kinds.ps ℕ
-μ-put-items κs a = a.1.1.1.1.0 * 65536 + a.1.1.1.1.1.1.0
-
-abbrev μ-put-shape : Measures 4 put-shape-kinds.ps ℕ
-μ-put-shape κs a = a.1.1.1.1.0 * 65536
-
-abbrev put-items-at : ℕ → In 4 put-items-kinds.ps
-put-items-at t = and 4 put-items-kinds.ps (is 4 put-items-kinds.ps μ-put-items t) put-items.Pre
-
-abbrev put-items-below : ℕ → In 4 put-items-kinds.ps
-put-items-below t =
-    and 4 put-items-kinds.ps (falls 4 put-items-kinds.ps ◌<◌ μ-put-items t) put-items.Pre
-
-abbrev put-shape-at : ℕ → In 4 put-shape-kinds.ps
-put-shape-at t = and 4 put-shape-kinds.ps (is 4 put-shape-kinds.ps μ-put-shape t) put-shape.Pre
-
-abbrev put-shape-below : ℕ → In 4 put-shape-kinds.ps
-put-shape-below t =
-    and 4 put-shape-kinds.ps (falls 4 put-shape-kinds.ps ◌<◌ μ-put-shape t) put-shape.Pre
-
 -- In the answers q is the start, o the loop, n the name passed over, p it written, f the first byte read, m what it says, w the shape written; in
 -- put-shape's k tells the kind, b, e and x are the tests before the list, l is its listing, j the look at it, g the test of that look, and w, v, u
 -- are the count, the items and the head written.
@@ -52,11 +31,11 @@ put_items-put_part-requires t c = let i : c.past_name-start.result ≤ length c.
 pub put_items-overflow_add-after : goal.put_items-overflow_add-after
 put_items-overflow_add-after t c = let i : c.past_name-start.result ≤ length c.args.s.now = omega (arith, c.past_name-start.ensures.inside.1, c.loop-due.invariant.inside) in
     let h = room-name _ _ _ _ _ _ _ _ _ _ _ _ c.loop-due.invariant c.requires.4 c.loop-due-test.true _ c.past_name-start.ensures.is c.past_name-start.ensures.inside.0 i in
-    record { fits = omega (arith, h, c.loop-due.invariant.long, q.well-formed.1.1.1.1.1.1.1.0) }
+    record { fits = omega (arith, h, c.loop-due.invariant.long) }
 
 pub put_items-loop-due-preserved-in-Unassigned : goal.put_items-loop-due-preserved-in-Unassigned
 put_items-loop-due-preserved-in-Unassigned t c = let i : c.past_name-start.result ≤ length c.args.s.now = omega (arith, c.past_name-start.ensures.inside.1, c.loop-due.invariant.inside) in
-    let z = shape-none (writes (blank_in c.args.sheet.now)) c.args.false c.args.s.now c.past_name-start.result (sym c.first_at.ensures.is ∙ c.in-Unassigned.is) in
+    let z = shape-none (writes (blank_in c.args.sheet.now)) c.args.left c.args.s.now c.past_name-start.result (sym c.first_at.ensures.is ∙ c.in-Unassigned.is) in
     turn-made _ _ _ _ _ _ _ _ _ _ _ _ c.loop-due.invariant c.requires.4 c.loop-due-test.true _ c.past_name-start.ensures.is c.past_name-start.ensures.inside.0 i [] _ _ _ _ z c.put_part.ensures (omega (arith, c.put_part.auto)) (sym (add-zero _)) (sym (written_none _ _)) refl i
 
 pub put_items-bounds-s-start : goal.put_items-bounds-s-start
@@ -64,13 +43,13 @@ put_items-bounds-s-start t c = let h = rw c.in-Short.is at c.first_at.ensures.in
 
 pub put_items-put_short-to-requires : goal.put_items-put_short-to-requires
 put_items-put_short-to-requires t c = let i : c.past_name-start.result ≤ length c.args.s.now = omega (arith, c.past_name-start.ensures.inside.1, c.loop-due.invariant.inside) in
-    let z = shape-short (writes (blank_in c.args.sheet.now)) c.args.false c.args.s.now c.past_name-start.result (sym c.first_at.ensures.is ∙ c.in-Short.is) in
+    let z = shape-short (writes (blank_in c.args.sheet.now)) c.args.left c.args.s.now c.past_name-start.result (sym c.first_at.ensures.is ∙ c.in-Short.is) in
     let h = rw z at (room-shape _ _ _ _ _ _ _ _ _ _ _ _ c.loop-due.invariant c.requires.4 c.loop-due-test.true _ c.past_name-start.ensures.is c.past_name-start.ensures.inside.0 i) in
     (c.requires.0, omega (arith, h.0, c.put_part.auto))
 
 pub put_items-loop-due-preserved-in-Short : goal.put_items-loop-due-preserved-in-Short
 put_items-loop-due-preserved-in-Short t c = let i : c.past_name-start.result ≤ length c.args.s.now = omega (arith, c.past_name-start.ensures.inside.1, c.loop-due.invariant.inside) in
-    let z = shape-short (writes (blank_in c.args.sheet.now)) c.args.false c.args.s.now c.past_name-start.result (sym c.first_at.ensures.is ∙ c.in-Short.is) in
+    let z = shape-short (writes (blank_in c.args.sheet.now)) c.args.left c.args.s.now c.past_name-start.result (sym c.first_at.ensures.is ∙ c.in-Short.is) in
     let h = rw c.in-Short.is at c.first_at.ensures.inside in
     turn-made _ _ _ _ _ _ _ _ _ _ _ _ c.loop-due.invariant c.requires.4 c.loop-due-test.true _ c.past_name-start.ensures.is c.past_name-start.ensures.inside.0 i _ _ _ _ _ z c.put_part.ensures (omega (arith, c.put_part.auto)) c.put_short-to.ensures.after c.put_short-to.ensures.wrote (omega (arith, c.put_short-to.auto)) (omega (arith, h.0))
 
@@ -82,31 +61,10 @@ put_items-put_shape-part-requires t c = let i : c.past_name-start.result ≤ len
 
 pub put_items-loop-due-preserved : goal.put_items-loop-due-preserved
 put_items-loop-due-preserved t c = let i : c.past_name-start.result ≤ length c.args.s.now = omega (arith, c.past_name-start.ensures.inside.1, c.loop-due.invariant.inside) in
-    let z = c.put_shape-part.ensures in turn_on _ _ _ _ _ _ _ _ _ _ _ _ c.loop-due.invariant c.requires.4 c.loop-due-test.true _ c.past_name-start.ensures.is c.past_name-start.ensures.inside.0 i _ _ _ _ c.put_part.ensures (omega (arith, c.put_part.auto)) z.next_is z.to_is z.wrote (omega (arith, c.put_shape-part.auto)) (rw z.next_is (shape-inside c.args.s.now (writes (blank_in c.args.sheet.now)) c.args.false c.past_name-start.result i))
+    let z = c.put_shape-part.ensures in turn_on _ _ _ _ _ _ _ _ _ _ _ _ c.loop-due.invariant c.requires.4 c.loop-due-test.true _ c.past_name-start.ensures.is c.past_name-start.ensures.inside.0 i _ _ _ _ c.put_part.ensures (omega (arith, c.put_part.auto)) z.next_is z.to_is z.wrote (omega (arith, c.put_shape-part.auto)) (rw z.next_is (shape-inside c.args.s.now (writes (blank_in c.args.sheet.now)) c.args.left c.past_name-start.result i))
 
 pub put_items-returns : goal.put_items-returns
 put_items-returns t c = rw (c.loop-due.invariant.goes, items-none _ _ _ _ _ _ _ c.loop-due-test.false) (record { next_is = refl; to_is = c.loop-due.invariant.to_is; wrote = c.loop-due.invariant.wrote })
-
--- levels left and items left fall as a pair: there are fewer than 65,536 items
-abbrev μ-put-items : Measures 4 put-items-kinds.ps ℕ
-μ-put-items κs a = a.1.1.1.1.0 * 65536 + a.1.1.1.1.1.1.0
-
-abbrev μ-put-shape : Measures 4 put-shape-kinds.ps ℕ
-μ-put-shape κs a = a.1.1.1.1.0 * 65536
-
-abbrev put-items-at : ℕ → In 4 put-items-kinds.ps
-put-items-at t = and 4 put-items-kinds.ps (is 4 put-items-kinds.ps μ-put-items t) put-items.Pre
-
-abbrev put-items-below : ℕ → In 4 put-items-kinds.ps
-put-items-below t =
-    and 4 put-items-kinds.ps (falls 4 put-items-kinds.ps ◌<◌ μ-put-items t) put-items.Pre
-
-abbrev put-shape-at : ℕ → In 4 put-shape-kinds.ps
-put-shape-at t = and 4 put-shape-kinds.ps (is 4 put-shape-kinds.ps μ-put-shape t) put-shape.Pre
-
-abbrev put-shape-below : ℕ → In 4 put-shape-kinds.ps
-put-shape-below t =
-    and 4 put-shape-kinds.ps (falls 4 put-shape-kinds.ps ◌<◌ μ-put-shape t) put-shape.Pre
 
 pub put_shape-returns-then-left-eq0 : goal.put_shape-returns-then-left-eq0
 put_shape-returns-then-left-eq0 t c = let y = sym c.shaped_kind.ensures ∙ c.if-shaped_kind.true in
@@ -114,7 +72,7 @@ put_shape-returns-then-left-eq0 t c = let y = sym c.shaped_kind.ensures ∙ c.if
 
 pub put_shape-returns-then-s-at-lt-HEAD_SIZE : goal.put_shape-returns-then-s-at-lt-HEAD_SIZE
 put_shape-returns-then-s-at-lt-HEAD_SIZE t c = let y = sym c.shaped_kind.ensures ∙ c.if-shaped_kind.true in
-    rw (list-cut _ c.args.false _ _ c.requires.3 y (omega (arith, c.if-left-eq0.false)) c.if-s-at-lt-HEAD_SIZE.true) (record { next_is = refl; to_is = sym (add-zero _); wrote = sym (written_none _ _) })
+    rw (list-cut _ c.args.left _ _ c.requires.3 y (omega (arith, c.if-left-eq0.false)) c.if-s-at-lt-HEAD_SIZE.true) (record { next_is = refl; to_is = sym (add-zero _); wrote = sym (written_none _ _) })
 
 pub put_shape-put_byte-requires : goal.put_shape-put_byte-requires
 put_shape-put_byte-requires t c = let y = sym c.shaped_kind.ensures ∙ c.if-shaped_kind.true in
@@ -123,7 +81,7 @@ put_shape-put_byte-requires t c = let y = sym c.shaped_kind.ensures ∙ c.if-sha
 pub put_shape-overflow_add-result : goal.put_shape-overflow_add-result
 put_shape-overflow_add-result t c = let y = sym c.shaped_kind.ensures ∙ c.if-shaped_kind.true in
     let h = packed-room _ _ _ _ _ c.requires.3 y (omega (arith, c.if-left-eq0.false)) c.if-s-at-lt-HEAD_SIZE.false _ c.list_at-list.ensures.is _ c.packed_at-one.ensures.is _ _ c.requires.4 c.if-one-gt0.true in
-    record { fits = omega (arith, h, q.well-formed.1.1.1.1.1.1.0) }
+    record { fits = omega (arith, h) }
 
 pub put_shape-returns-then-one-gt0 : goal.put_shape-returns-then-one-gt0
 put_shape-returns-then-one-gt0 t c = let y = sym c.shaped_kind.ensures ∙ c.if-shaped_kind.true in
@@ -139,7 +97,7 @@ pub put_shape-overflow_add-to-then-shaped_kind : goal.put_shape-overflow_add-to-
 put_shape-overflow_add-to-then-shaped_kind t c = let y = sym c.shaped_kind.ensures ∙ c.if-shaped_kind.true in
     let i : c.list_at-list.result.from ≤ length c.args.s.now = omega (arith, c.list_at-list.ensures.inside.1, c.if-s-at-lt-HEAD_SIZE.false) in
     let r = long-room _ _ _ _ _ c.requires.3 y (omega (arith, c.if-left-eq0.false)) c.if-s-at-lt-HEAD_SIZE.false _ c.list_at-list.ensures.is _ c.packed_at-one.ensures.is _ _ c.requires.4 c.if-one-gt0.false i c.list_at-list.ensures.inside.0 in
-    record { fits = omega (arith, r.0, q.well-formed.1.1.1.1.1.1.0) }
+    record { fits = omega (arith, r.0) }
 
 pub put_shape-put_items-all-requires : goal.put_shape-put_items-all-requires
 put_shape-put_items-all-requires t c = let y = sym c.shaped_kind.ensures ∙ c.if-shaped_kind.true in

@@ -19,4 +19,4 @@ pub returns-clause-after : goal.returns-clause-after
 returns-clause-after c = rw (le-ltb _ short_blanks c.if-b-lt-SHORT_BLANKS.false) refl
 
 pub returns-clause-wrote : goal.returns-clause-wrote
-returns-clause-wrote c = c.put_byte.ensures
+returns-clause-wrote c = rw (le-ltb _ short_blanks c.if-b-lt-SHORT_BLANKS.false) c.put_byte.ensures
