@@ -16,7 +16,7 @@ returns-then-count-lt1-clause-is c = rw (lt-ltb _ _ c.if-count-lt1.true) refl
 
 pub returns-then-count-lt1-clause-buffer : goal.returns-then-count-lt1-clause-buffer
 unfolding section_answer buffer_after
-returns-then-count-lt1-clause-buffer c = refl
+returns-then-count-lt1-clause-buffer c = rw (lt-ltb _ _ c.if-count-lt1.true) refl
 
 pub returns : goal.returns
 unfolding section_answer

@@ -15,7 +15,7 @@ use Rattle.entries.proofs.Owning.{Turn, few-inner, few-sums, item-fits, turn_on}
 use Rattle.entries.proofs.put_own.Goals as goal
 
 pub returns-then-not-has_entries : goal.returns-then-not-has_entries
-returns-then-not-has_entries c = rw (no_own c.args.section c.args.kind c.args.base c.args.after _ _ _ _ (sym c.has_entries.ensures ∙ not-true _ c.if-not-has_entries.true)) (wrote_none _ _)
+returns-then-not-has_entries c = rw (no_own c.args.section c.args.kind c.args.base c.args.after _ _ _ _ (sym c.has_entries.ensures ∙ c.if-not-has_entries.true)) (wrote_none _ _)
 
 pub loop-due-init : goal.loop-due-init
 loop-due-init c = record { a = no_items; goes = refl; few = omega (arith, c.requires.4); wrote = wrote_none _ _; nodes-is = refl; text_is = refl; k-is = refl; long = refl; inside = c.requires.0; fewer = omega arith }

@@ -17,7 +17,7 @@ returns-in-Refused-clause-is c = let a = c.args in rw (answer-unread a.template.
 
 pub returns-in-Refused-clause-buffer : goal.returns-in-Refused-clause-buffer
 unfolding buffer_after
-returns-in-Refused-clause-buffer c = let a = c.args in refl
+returns-in-Refused-clause-buffer c = let a = c.args in rw (answer-unread a.template.now a.sheet.now (length a.out.now) _ _ (sym c.read.ensures ∙ c.in-Refused.is)) refl
 
 pub returns-in-Broken-clause-is : goal.returns-in-Broken-clause-is
 unfolding buffer_after
@@ -27,4 +27,4 @@ returns-in-Broken-clause-is c = let a = c.args in let h : IsAccepted (reading a.
 pub returns-in-Broken-clause-buffer : goal.returns-in-Broken-clause-buffer
 unfolding buffer_after
 returns-in-Broken-clause-buffer c = let a = c.args in let h : IsAccepted (reading a.template.now) = accepted (reading a.template.now) _ _ (sym c.read.ensures ∙ c.in-Accepted.is) in
-    refl
+    rw (answer-broken a.template.now a.sheet.now (length a.out.now) _ h (sym c.check_into.ensures.is ∙ c.in-Broken.is)) refl

@@ -27,7 +27,7 @@ pub returns-in-Refused-clause-buffer : goal.returns-in-Refused-clause-buffer
 unfolding buffer_after
 returns-in-Refused-clause-buffer c = let m = c.measure-size in let f = found c.args.template.now c.args.sheet.now m.result c.requires.1 m.ensures in
     let room = length c.args.out.now in
-    refl
+    rw (answer-is room c.requires.0 f, filled-comes room c.requires.0 f (sym c.in-Refused.is ∙ c.verdict.ensures)) refl
 
 pub returns-in-Written-clause-is : goal.returns-in-Written-clause-is
 returns-in-Written-clause-is c = let m = c.measure-size in let f = found c.args.template.now c.args.sheet.now m.result c.requires.1 m.ensures in

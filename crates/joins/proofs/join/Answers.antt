@@ -16,7 +16,7 @@ returns-in-Broken-clause-is c = let a = c.args in rw (join-first-broken a.first.
 
 pub returns-in-Broken-clause-buffer : goal.returns-in-Broken-clause-buffer
 unfolding buffer_after
-returns-in-Broken-clause-buffer c = let a = c.args in refl
+returns-in-Broken-clause-buffer c = let a = c.args in rw (join-first-broken a.first.now a.second.now (length a.out.now) _ (sym c.check_into.ensures.is ∙ c.in-Broken.is)) refl
 
 pub returns-in-Broken-check_into-clause-is : goal.returns-in-Broken-check_into-clause-is
 unfolding buffer_after
@@ -26,4 +26,4 @@ returns-in-Broken-check_into-clause-is c = let a = c.args in let r = rw c.in-Sou
 pub returns-in-Broken-check_into-clause-buffer : goal.returns-in-Broken-check_into-clause-buffer
 unfolding buffer_after
 returns-in-Broken-check_into-clause-buffer c = let a = c.args in let r = rw c.in-Sound.is at c.check_into.ensures.ready in
-    refl
+    rw (join-second-broken a.second.now (length a.out.now) _ r (λ i. omega (arith, c.type_inv.second i)) (sym c.check_into-in-Sound.ensures.is ∙ c.in-Broken-check_into.is)) refl

@@ -97,10 +97,15 @@ shape_size-returns-then-s-at-lt-HEAD_SIZE-clause-inside t c = let a = c.args in 
 pub shape_size-items_size-all-requires : goal.shape_size-items_size-all-requires
 shape_size-items_size-all-requires t c = let p = c.requires in (omega (arith), (p.0, p.1, search rules, search rules, search rules))
 
-pub shape_size-returns-then-shaped_kind : goal.shape_size-returns-then-shaped_kind
-shape_size-returns-then-shaped_kind t c = let a = c.args in list-is (blank_in a.sheet.now) a.left a.s.now a.at a.kind c.list_at-list.result c.items_size-all.result c.list_size.result
+pub shape_size-returns-then-shaped_kind-clause-is : goal.shape_size-returns-then-shaped_kind-clause-is
+shape_size-returns-then-shaped_kind-clause-is t c = let a = c.args in (list-is (blank_in a.sheet.now) a.left a.s.now a.at a.kind c.list_at-list.result c.items_size-all.result c.list_size.result
     c.requires.4 (sym c.shaped_kind.ensures ∙ c.if-shaped_kind.true) (search rules) (search rules)
-    c.list_at-list.ensures.is c.list_at-list.ensures.inside c.items_size-all.ensures.is c.items_size-all.ensures.inside c.list_size.ensures
+    c.list_at-list.ensures.is c.list_at-list.ensures.inside c.items_size-all.ensures.is c.items_size-all.ensures.inside c.list_size.ensures).0
+
+pub shape_size-returns-then-shaped_kind-clause-inside : goal.shape_size-returns-then-shaped_kind-clause-inside
+shape_size-returns-then-shaped_kind-clause-inside t c = let a = c.args in (list-is (blank_in a.sheet.now) a.left a.s.now a.at a.kind c.list_at-list.result c.items_size-all.result c.list_size.result
+    c.requires.4 (sym c.shaped_kind.ensures ∙ c.if-shaped_kind.true) (search rules) (search rules)
+    c.list_at-list.ensures.is c.list_at-list.ensures.inside c.items_size-all.ensures.is c.items_size-all.ensures.inside c.list_size.ensures).1
 
 -- a payload that is no list
 pub shape_size-plain_size-requires : goal.shape_size-plain_size-requires

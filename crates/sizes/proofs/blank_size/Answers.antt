@@ -16,8 +16,7 @@ returns-in-Absent-clause-is c = let b = rw c.in-Absent.is at c.entry_of.ensures 
     rw (c.stays_size.ensures, b) refl
 
 pub returns-in-Absent-clause-inside : goal.returns-in-Absent-clause-inside
-returns-in-Absent-clause-inside c = let b = rw c.in-Absent.is at c.entry_of.ensures in
-    rw (c.stays_size.ensures, b) (blank-inside _)
+returns-in-Absent-clause-inside c = rw c.stays_size.ensures (blank-inside _)
 
 pub returns-in-Present-clause-is : goal.returns-in-Present-clause-is
 returns-in-Present-clause-is c = let f = rw c.in-Present.is at c.entry_of.ensures in
@@ -25,4 +24,4 @@ returns-in-Present-clause-is c = let f = rw c.in-Present.is at c.entry_of.ensure
 
 pub returns-in-Present-clause-inside : goal.returns-in-Present-clause-inside
 returns-in-Present-clause-inside c = let f = rw c.in-Present.is at c.entry_of.ensures in
-    rw c.prim_in.ensures (found_inside _ _ _ _ _ f)
+    found_inside _ _ _ _ _ f

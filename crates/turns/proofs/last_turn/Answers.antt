@@ -43,4 +43,4 @@ pub returns-in-Between : goal.returns-in-Between
 returns-in-Between c = rw (c.in-Between.is, c.moved_on-in-Between.ensures) (between-leads c.between_moved.result (omega arith) (omega arith) c.between_moved.ensures)
 
 pub returns-in_default : goal.returns-in_default
-returns-in_default c = rw c.waits.ensures (wait-leads (waiting c.args.mode c.in_default.keys3) (omega arith) c.requires.1 (omega arith))
+returns-in_default c = rw c.waits.ensures (wait-leads (waiting c.args.mode c.in_default.in_default-own.keys3) (omega arith) c.requires.1 (omega arith))

@@ -29,7 +29,7 @@ pub returns-then-out-needed-clause-buffer : goal.returns-then-out-needed-clause-
 unfolding buffer_after
 returns-then-out-needed-clause-buffer c = let a = c.args in let s = a.bytes.now in
     let f = found s (λ i. omega (arith, c.type_inv.bytes i)) _ _ (sym c.read.ensures ∙ c.in-Accepted.is) in
-    refl
+    rw (answer-short s f c.count_at.result.counts c.count_at.ensures.counts_is (length a.out.now) (omega (arith, c.table_size-needed.ensures))) refl
 
 pub put_table-length-requires : goal.put_table-length-requires
 put_table-length-requires c = let a = c.args in let s = a.bytes.now in
@@ -43,7 +43,7 @@ returns-in-Refused-clause-is c = let a = c.args in rw (answer-unread a.bytes.now
 
 pub returns-in-Refused-clause-buffer : goal.returns-in-Refused-clause-buffer
 unfolding buffer_after
-returns-in-Refused-clause-buffer c = let a = c.args in refl
+returns-in-Refused-clause-buffer c = let a = c.args in rw (answer-unread a.bytes.now (length a.out.now) _ _ (sym c.read.ensures ∙ c.in-Refused.is)) refl
 
 pub returns-else-out-needed-clause-is : goal.returns-else-out-needed-clause-is
 returns-else-out-needed-clause-is c = let a = c.args in let s = a.bytes.now in

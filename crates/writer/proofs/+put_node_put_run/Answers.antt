@@ -49,8 +49,11 @@ pub put_node-returns-in-Blank : goal.put_node-returns-in-Blank
 put_node-returns-in-Blank t c = let z = node-by-form _ _ _ _ c.requires.0 _ c.requires.1 _ c.node_at-node.ensures.is _ (sym c.form_of.ensures ∙ c.in-Blank.is) in
     rw z c.put_blank.ensures
 
-pub put_node-returns-in-List : goal.put_node-returns-in-List
-put_node-returns-in-List t c = list_wrote _ _ _ _ c.requires.0 _ c.requires.1 _ c.node_at-node.ensures.is _ _ _ _ (sym c.form_of.ensures ∙ c.in-List.is) _ _ c.requires.2 _ _ _ _ _ _ refl c.put_count-from.ensures.wrote c.put_count-from.ensures.after c.put_run-end.ensures.wrote c.put_run-end.ensures.after c.put_head.ensures
+pub put_node-returns-in-List-clause-after : goal.put_node-returns-in-List-clause-after
+put_node-returns-in-List-clause-after t c = (list_wrote _ _ _ _ c.requires.0 _ c.requires.1 _ c.node_at-node.ensures.is _ _ _ _ (sym c.form_of.ensures ∙ c.in-List.is) _ _ c.requires.2 _ _ _ _ _ _ refl c.put_count-from.ensures.wrote c.put_count-from.ensures.after c.put_run-end.ensures.wrote c.put_run-end.ensures.after c.put_head.ensures).0
+
+pub put_node-returns-in-List-clause-wrote : goal.put_node-returns-in-List-clause-wrote
+put_node-returns-in-List-clause-wrote t c = (list_wrote _ _ _ _ c.requires.0 _ c.requires.1 _ c.node_at-node.ensures.is _ _ _ _ (sym c.form_of.ensures ∙ c.in-List.is) _ _ c.requires.2 _ _ _ _ _ _ refl c.put_count-from.ensures.wrote c.put_count-from.ensures.after c.put_run-end.ensures.wrote c.put_run-end.ensures.after c.put_head.ensures).1
 
 pub put_run-loop-due-init : goal.put_run-loop-due-init
 put_run-loop-due-init t c = turn-first _ _ _ _ _ _ _ _ _ _ c.requires.1
@@ -77,5 +80,8 @@ put_run-put_node-to-requires-in-Named t c = let b = named-before _ _ _ _ c.requi
 pub put_run-loop-due-preserved : goal.put_run-loop-due-preserved
 put_run-loop-due-preserved t c = turn_on _ _ _ _ _ _ _ _ _ _ _ _ _ _ c.loop-due.invariant c.requires.2 c.loop-due-test.true _ c.link_at-link.ensures _ (named-child _ _ _ _ _ _ c.in-Named.is) _ _ _ _ c.put_name-after.ensures.wrote (omega (arith, c.put_name-after.auto)) c.put_name-after.ensures.after c.put_node-to-in-Named.ensures.wrote (omega (arith, c.put_node-to-in-Named.auto)) c.put_node-to-in-Named.ensures.after
 
-pub put_run-returns : goal.put_run-returns
-put_run-returns t c = turn_last _ _ _ _ _ _ _ _ _ _ _ _ _ _ c.loop-due.invariant c.loop-due-test.false
+pub put_run-returns-clause-after : goal.put_run-returns-clause-after
+put_run-returns-clause-after t c = (turn_last _ _ _ _ _ _ _ _ _ _ _ _ _ _ c.loop-due.invariant c.loop-due-test.false).0
+
+pub put_run-returns-clause-wrote : goal.put_run-returns-clause-wrote
+put_run-returns-clause-wrote t c = (turn_last _ _ _ _ _ _ _ _ _ _ _ _ _ _ c.loop-due.invariant c.loop-due-test.false).1

@@ -22,7 +22,7 @@ returns-then-node-count-clause-is c = let a = c.args in rw (write-node a.nodes.n
 
 pub returns-then-node-count-clause-buffer : goal.returns-then-node-count-clause-buffer
 unfolding buffer_after
-returns-then-node-count-clause-buffer c = let a = c.args in refl
+returns-then-node-count-clause-buffer c = let a = c.args in rw (write-node a.nodes.now a.rest.now a.count c.requires.0 c.requires.1 c.requires.2 (length a.out.now) (sym c.layout_of.ensures ∙ c.in-Laid.is) c.bad_node-node.ensures c.if-node-count.true) refl
 
 pub bad_name-name-requires : goal.bad_name-name-requires
 bad_name-name-requires c = let f = layout-fits c.args.rest.now _ _ _ (sym c.layout_of.ensures ∙ c.in-Laid.is) in
@@ -34,7 +34,7 @@ returns-then-name-names-clause-is c = let a = c.args in rw (write-name a.nodes.n
 
 pub returns-then-name-names-clause-buffer : goal.returns-then-name-names-clause-buffer
 unfolding buffer_after
-returns-then-name-names-clause-buffer c = let a = c.args in refl
+returns-then-name-names-clause-buffer c = let a = c.args in rw (write-name a.nodes.now a.rest.now a.count c.requires.0 c.requires.1 c.requires.2 (length a.out.now) (sym c.layout_of.ensures ∙ c.in-Laid.is) c.bad_node-node.ensures c.if-node-count.false c.bad_name-name.ensures c.if-name-names.true) refl
 
 pub write_sound-requires : goal.write_sound-requires
 write_sound-requires c = let a = c.args in (passed a.nodes.now a.rest.now a.count c.requires.0 c.requires.1 c.requires.2 (length a.out.now) (sym c.layout_of.ensures ∙ c.in-Laid.is) c.bad_node-node.ensures c.if-node-count.false c.bad_name-name.ensures c.if-name-names.false, c.requires.0, c.requires.1)
@@ -45,7 +45,7 @@ returns-in-Broken-clause-is c = let a = c.args in rw (write-section a.nodes.now 
 
 pub returns-in-Broken-clause-buffer : goal.returns-in-Broken-clause-buffer
 unfolding buffer_after
-returns-in-Broken-clause-buffer c = let a = c.args in refl
+returns-in-Broken-clause-buffer c = let a = c.args in rw (write-section a.nodes.now a.rest.now a.count c.requires.0 c.requires.1 c.requires.2 (length a.out.now) _ (sym c.layout_of.ensures ∙ c.in-Broken.is)) refl
 
 pub returns-else-name-names : goal.returns-else-name-names
 returns-else-name-names c = let a = c.args in rw (write-made a.nodes.now a.rest.now a.count c.requires.0 c.requires.1 c.requires.2 (length a.out.now) (sym c.layout_of.ensures ∙ c.in-Laid.is) c.bad_node-node.ensures c.if-node-count.false c.bad_name-name.ensures c.if-name-names.false) c.write_sound.ensures

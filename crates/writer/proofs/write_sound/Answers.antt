@@ -12,48 +12,38 @@ use Rattle.writer.specs.Bytes.{table_at}
 use Rattle.writer.proofs.Answering.{Found, nodes-are, root-encoded, root-found, found-comes}
 use Rattle.writer.proofs.write_sound.Goals as goal
 
--- what is known once the extents are held
-abbrev Held : Type 0
-Held = lts.After-extents-of (extents-of-reads.Asked, extents-of-reads.Learnt, verdict-reads.Asked, verdict-reads.Learnt, put-node-reads.Asked, put-node-reads.Learnt) reads.Pre reads.Post
-
--- What is held of the root is found of what the table means.
-found : (c : Held) → let a = c.before.before.before.before.before.before.args in Found (table_shape (table_at a.nodes.now a.rest.now a.links a.names)) (get_or c.extents-of.new.1.1.1.1.1.0 (a.count - 1) 0) (get_or c.extents-of.new.1.1.1.1.1.1.0 (a.count - 1) 0)
-found c =
-    let b = c.before.before.before.before.before.before in let a = b.args in
-    root-found a.nodes.now a.rest.now a.links a.names a.count b.requires.1 c.extents-of.new.1.1.1.1.1.0 c.extents-of.new.1.1.1.1.1.1.0 b.requires.0 b.requires.2 c.extents-of.ensures
-
 pub extents_of-requires : goal.extents_of-requires
 extents_of-requires c = let a = c.args in let s = c.requires.0 in let n = nodes-are a.nodes.now a.rest.now a.links a.names a.count c.requires.1 in
     (rw n at s.nodes_few, omega (arith, c.requires.1), s.links_few, s.names_few, omega (arith, s.sections), rw n at s.nodes_good, refl, refl)
 
 pub overflow_cast-lengths : goal.overflow_cast-lengths
-overflow_cast-lengths c = let f = found c.before.before in omega (arith, f.bytes)
+overflow_cast-lengths c = let f = root-found c.args.nodes.now c.args.rest.now c.args.links c.args.names c.args.count c.requires.1 c.extents_of.new.lengths c.extents_of.new.depths c.requires.0 c.requires.2 c.extents_of.ensures in omega (arith, f.bytes)
 
 pub overflow_cast-depths : goal.overflow_cast-depths
-overflow_cast-depths c = let f = found c.before.before in omega (arith, f.levels)
+overflow_cast-depths c = let f = root-found c.args.nodes.now c.args.rest.now c.args.links c.args.names c.args.count c.requires.1 c.extents_of.new.lengths c.extents_of.new.depths c.requires.0 c.requires.2 c.extents_of.ensures in omega (arith, f.levels)
 
 pub put_node-requires : goal.put_node-requires
 put_node-requires c = let a = c.args in let n = nodes-are a.nodes.now a.rest.now a.links a.names a.count c.requires.1 in
     let r = root-encoded a.nodes.now a.rest.now a.links a.names a.count c.requires.1 in
-    let v = found-comes (found e) (length a.out.now) (sym c.in-Written.is ∙ c.verdict.ensures) in
+    let v = found-comes (root-found c.args.nodes.now c.args.rest.now c.args.links c.args.names c.args.count c.requires.1 c.extents_of.new.lengths c.extents_of.new.depths c.requires.0 c.requires.2 c.extents_of.ensures) (length a.out.now) (sym c.in-Written.is ∙ c.verdict.ensures) in
     (c.requires.0, rw n (omega (arith, c.requires.2)), rw r (omega (arith, v.1, v.2), omega (arith, v.1, v.3)))
 
 pub returns-in-Refused-clause-is : goal.returns-in-Refused-clause-is
 unfolding buffer_after
-returns-in-Refused-clause-is c = rw (found-comes (found e) (length c.args.out.now) (sym c.in-Refused.is ∙ c.verdict.ensures)) refl
+returns-in-Refused-clause-is c = rw (found-comes (root-found c.args.nodes.now c.args.rest.now c.args.links c.args.names c.args.count c.requires.1 c.extents_of.new.lengths c.extents_of.new.depths c.requires.0 c.requires.2 c.extents_of.ensures) (length c.args.out.now) (sym c.in-Refused.is ∙ c.verdict.ensures)) refl
 
 pub returns-in-Refused-clause-buffer : goal.returns-in-Refused-clause-buffer
 unfolding buffer_after
-returns-in-Refused-clause-buffer c = refl
+returns-in-Refused-clause-buffer c = rw (found-comes (root-found c.args.nodes.now c.args.rest.now c.args.links c.args.names c.args.count c.requires.1 c.extents_of.new.lengths c.extents_of.new.depths c.requires.0 c.requires.2 c.extents_of.ensures) (length c.args.out.now) (sym c.in-Refused.is ∙ c.verdict.ensures)) refl
 
 pub returns-in-Written-clause-is : goal.returns-in-Written-clause-is
 returns-in-Written-clause-is c = let a = c.args in let r = root-encoded a.nodes.now a.rest.now a.links a.names a.count c.requires.1 in
-    let v = found-comes (found e) (length a.out.now) (sym c.in-Written.is ∙ c.verdict.ensures) in
+    let v = found-comes (root-found c.args.nodes.now c.args.rest.now c.args.links c.args.names c.args.count c.requires.1 c.extents_of.new.lengths c.extents_of.new.depths c.requires.0 c.requires.2 c.extents_of.ensures) (length a.out.now) (sym c.in-Written.is ∙ c.verdict.ensures) in
     let w = rw r at c.put_node.ensures in
     rw v.0 (ap Written v.1)
 
 pub returns-in-Written-clause-buffer : goal.returns-in-Written-clause-buffer
 returns-in-Written-clause-buffer c = let a = c.args in let r = root-encoded a.nodes.now a.rest.now a.links a.names a.count c.requires.1 in
-    let v = found-comes (found e) (length a.out.now) (sym c.in-Written.is ∙ c.verdict.ensures) in
+    let v = found-comes (root-found c.args.nodes.now c.args.rest.now c.args.links c.args.names c.args.count c.requires.1 c.extents_of.new.lengths c.extents_of.new.depths c.requires.0 c.requires.2 c.extents_of.ensures) (length a.out.now) (sym c.in-Written.is ∙ c.verdict.ensures) in
     let w = rw r at c.put_node.ensures in
-    rw v.0 (w.1 ∙ buffer-made _ _)
+    rw v.0 (w.wrote ∙ buffer-made _ _)

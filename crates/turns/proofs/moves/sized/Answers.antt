@@ -34,7 +34,7 @@ small Done k = refl
 small (Faulty number place) k = refl
 
 pub returns-in_default-clause-is : goal.returns-in_default-clause-is
-returns-in_default-clause-is c = sym (small c.args.mode c.in_default.keys4)
+returns-in_default-clause-is c = sym (small c.args.mode c.in_default.in_default-own.keys4)
 
 pub returns-in_default-clause-small : goal.returns-in_default-clause-small
 returns-in_default-clause-small c = omega arith
