@@ -7,6 +7,7 @@ use native.Mathlib.Omega.{arith}
 use borrow.Author.Rules.{rules}
 use denote.Enum.Declared.{tag_of}
 use types.Run.{OneOf, miss}
+use borrow.Enum.Refused.{opened}
 use Rattle.byte_steps.specs.declared.modes.Mode.{Mode}
 use Rattle.byte_steps.specs.declared.modes.Mode.TheVariants.{Head, SizeLow, SizeHigh, Opening, Count, CountMore, Length, LengthMore, Letters, BlankLow, BlankHigh, Between, Done, Faulty}
 use Rattle.byte_steps.specs.contracts.modes.Mode.{the_type}
@@ -43,4 +44,4 @@ pub returns-in-Between : goal.returns-in-Between
 returns-in-Between c = rw (c.in-Between.is, c.moved_on-in-Between.ensures) (between-leads c.between_moved.result (omega arith) (omega arith) c.between_moved.ensures)
 
 pub returns-in_default : goal.returns-in_default
-returns-in_default c = rw c.waits.ensures (wait-leads (waiting c.args.mode c.in_default.in_default-own.keys3) (omega arith) c.requires.1 (omega arith))
+returns-in_default c = rw c.waits.ensures (wait-leads (waiting c.args.mode (opened c.in_default.in_default-own.keys3)) (omega arith) c.requires.1 (omega arith))

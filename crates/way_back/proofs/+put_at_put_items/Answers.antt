@@ -36,16 +36,20 @@ put_at-returns-then-s-at-lt-HEAD_SIZE t c = let y = sym c.shaped_kind.ensures �
     put-none (list-cut _ c.args.left _ _ (sym c.first_at.ensures.is ∙ c.in-Long.is) y (omega (arith, c.if-left-eq0.false)) c.if-s-at-lt-HEAD_SIZE.true) c.requires.0
 
 pub put_at-put_items-all-requires : goal.put_at-put_items-all-requires
-put_at-put_items-all-requires t c = (omega (arith, c.if-left-eq0.false, c.list_at-list.ensures.inside.2), ((omega (arith, c.list_at-list.ensures.inside.1, c.if-s-at-lt-HEAD_SIZE.false)), c.requires.1, omega (arith, c.requires.2), c.list_at-list.ensures.inside.2, list-few ((is-list _ _ _ _ _ (sym c.first_at.ensures.is ∙ c.in-Long.is) (sym c.shaped_kind.ensures ∙ c.if-shaped_kind.true) (omega (arith, c.if-left-eq0.false)) c.if-s-at-lt-HEAD_SIZE.false c.list_at-list.ensures.is)) c.args.base c.requires.3, items-room ((is-list _ _ _ _ _ (sym c.first_at.ensures.is ∙ c.in-Long.is) (sym c.shaped_kind.ensures ∙ c.if-shaped_kind.true) (omega (arith, c.if-left-eq0.false)) c.if-s-at-lt-HEAD_SIZE.false c.list_at-list.ensures.is)) c.args.base c.args.section _ _ c.requires.4, c.requires.5))
+put_at-put_items-all-requires t c = let f : IsList c.args.left c.args.s.now c.args.at c.in-Long.kind c.list_at-list.result = is-list _ _ _ _ _ (sym c.first_at.ensures.is ∙ c.in-Long.is) (sym c.shaped_kind.ensures ∙ c.if-shaped_kind.true) (omega (arith, c.if-left-eq0.false)) c.if-s-at-lt-HEAD_SIZE.false c.list_at-list.ensures.is in
+    (omega (arith, c.if-left-eq0.false, c.list_at-list.ensures.inside.2), ((omega (arith, c.list_at-list.ensures.inside.1, c.if-s-at-lt-HEAD_SIZE.false)), c.requires.1, omega (arith, c.requires.2), c.list_at-list.ensures.inside.2, list-few f c.args.base c.requires.3, items-room f c.args.base c.args.section _ _ c.requires.4, c.requires.5))
 
 pub put_at-put_list-end-requires : goal.put_at-put_list-end-requires
-put_at-put_list-end-requires t c = let z = c.put_items-all.ensures.there_is in rw ((is-list _ _ _ _ _ (sym c.first_at.ensures.is ∙ c.in-Long.is) (sym c.shaped_kind.ensures ∙ c.if-shaped_kind.true) (omega (arith, c.if-left-eq0.false)) c.if-s-at-lt-HEAD_SIZE.false c.list_at-list.ensures.is)).has-shapes ((omega (arith, c.list_at-list.ensures.inside.1, c.if-s-at-lt-HEAD_SIZE.false)), c.requires.1, omega (arith, c.requires.2), c.list_at-list.ensures.inside.2, z, rw z (list-few ((is-list _ _ _ _ _ (sym c.first_at.ensures.is ∙ c.in-Long.is) (sym c.shaped_kind.ensures ∙ c.if-shaped_kind.true) (omega (arith, c.if-left-eq0.false)) c.if-s-at-lt-HEAD_SIZE.false c.list_at-list.ensures.is)) c.args.base c.requires.3).0.1, rw z (own-few ((is-list _ _ _ _ _ (sym c.first_at.ensures.is ∙ c.in-Long.is) (sym c.shaped_kind.ensures ∙ c.if-shaped_kind.true) (omega (arith, c.if-left-eq0.false)) c.if-s-at-lt-HEAD_SIZE.false c.list_at-list.ensures.is)) c.args.base c.requires.3 c.requires.5), own_room ((is-list _ _ _ _ _ (sym c.first_at.ensures.is ∙ c.in-Long.is) (sym c.shaped_kind.ensures ∙ c.if-shaped_kind.true) (omega (arith, c.if-left-eq0.false)) c.if-s-at-lt-HEAD_SIZE.false c.list_at-list.ensures.is)) c.args.base c.args.section _ _ (omega (arith, c.requires.4, c.put_items-all.auto)) c.put_items-all.ensures.wrote.after)
+put_at-put_list-end-requires t c = let f : IsList c.args.left c.args.s.now c.args.at c.in-Long.kind c.list_at-list.result = is-list _ _ _ _ _ (sym c.first_at.ensures.is ∙ c.in-Long.is) (sym c.shaped_kind.ensures ∙ c.if-shaped_kind.true) (omega (arith, c.if-left-eq0.false)) c.if-s-at-lt-HEAD_SIZE.false c.list_at-list.ensures.is in
+    let z = c.put_items-all.ensures.there_is in rw f.has-shapes ((omega (arith, c.list_at-list.ensures.inside.1, c.if-s-at-lt-HEAD_SIZE.false)), c.requires.1, omega (arith, c.requires.2), c.list_at-list.ensures.inside.2, z, rw z (list-few f c.args.base c.requires.3).0.1, rw z (own-few f c.args.base c.requires.3 c.requires.5), own_room f c.args.base c.args.section _ _ (omega (arith, c.requires.4, c.put_items-all.auto)) c.put_items-all.ensures.wrote.after)
 
 pub put_at-plus-requires-then-shaped_kind : goal.put_at-plus-requires-then-shaped_kind
-put_at-plus-requires-then-shaped_kind t c = sum-few ((is-list _ _ _ _ _ (sym c.first_at.ensures.is ∙ c.in-Long.is) (sym c.shaped_kind.ensures ∙ c.if-shaped_kind.true) (omega (arith, c.if-left-eq0.false)) c.if-s-at-lt-HEAD_SIZE.false c.list_at-list.ensures.is)) c.args.base c.put_items-all.ensures c.own_counts.ensures c.requires.3
+put_at-plus-requires-then-shaped_kind t c = let f : IsList c.args.left c.args.s.now c.args.at c.in-Long.kind c.list_at-list.result = is-list _ _ _ _ _ (sym c.first_at.ensures.is ∙ c.in-Long.is) (sym c.shaped_kind.ensures ∙ c.if-shaped_kind.true) (omega (arith, c.if-left-eq0.false)) c.if-s-at-lt-HEAD_SIZE.false c.list_at-list.ensures.is in
+    sum-few f c.args.base c.put_items-all.ensures c.own_counts.ensures c.requires.3
 
 pub put_at-returns-then-shaped_kind : goal.put_at-returns-then-shaped_kind
-put_at-returns-then-shaped_kind t c = list_put ((is-list _ _ _ _ _ (sym c.first_at.ensures.is ∙ c.in-Long.is) (sym c.shaped_kind.ensures ∙ c.if-shaped_kind.true) (omega (arith, c.if-left-eq0.false)) c.if-s-at-lt-HEAD_SIZE.false c.list_at-list.ensures.is)) c.args.base c.put_items-all.ensures c.own_counts.ensures c.requires.4 (rw ((is-list _ _ _ _ _ (sym c.first_at.ensures.is ∙ c.in-Long.is) (sym c.shaped_kind.ensures ∙ c.if-shaped_kind.true) (omega (arith, c.if-left-eq0.false)) c.if-s-at-lt-HEAD_SIZE.false c.list_at-list.ensures.is)).has-shapes at c.put_list-end.ensures) c.plus-then-shaped_kind.ensures
+put_at-returns-then-shaped_kind t c = let f : IsList c.args.left c.args.s.now c.args.at c.in-Long.kind c.list_at-list.result = is-list _ _ _ _ _ (sym c.first_at.ensures.is ∙ c.in-Long.is) (sym c.shaped_kind.ensures ∙ c.if-shaped_kind.true) (omega (arith, c.if-left-eq0.false)) c.if-s-at-lt-HEAD_SIZE.false c.list_at-list.ensures.is in
+    list_put f c.args.base c.put_items-all.ensures c.own_counts.ensures c.requires.4 (rw f.has-shapes at c.put_list-end.ensures) c.plus-then-shaped_kind.ensures
 
 pub put_at-put_plain-end-requires : goal.put_at-put_plain-end-requires
 put_at-put_plain-end-requires t c = let h = rw c.in-Long.is at c.first_at.ensures.inside in

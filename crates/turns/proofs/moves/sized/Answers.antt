@@ -6,6 +6,7 @@ use native.Mathlib.Omega.{arith}
 use borrow.Author.Rules.{rules}
 use denote.Enum.Declared.{tag_of}
 use types.Run.{OneOf, miss}
+use borrow.Enum.Refused.{opened}
 use Rattle.byte_steps.specs.declared.modes.Mode.{Mode}
 use Rattle.byte_steps.specs.declared.modes.Mode.TheVariants.{Head, SizeLow, SizeHigh, Opening, Count, CountMore, Length, LengthMore, Letters, BlankLow, BlankHigh, Between, Done, Faulty}
 use Rattle.byte_steps.specs.contracts.modes.Mode.{the_type}
@@ -34,7 +35,7 @@ small Done k = refl
 small (Faulty number place) k = refl
 
 pub returns-in_default-clause-is : goal.returns-in_default-clause-is
-returns-in_default-clause-is c = sym (small c.args.mode c.in_default.in_default-own.keys4)
+returns-in_default-clause-is c = sym (small c.args.mode (opened c.in_default.in_default-own.keys4))
 
 pub returns-in_default-clause-small : goal.returns-in_default-clause-small
 returns-in_default-clause-small c = omega arith
