@@ -1,3 +1,1 @@
-pub mod Again
-pub mod Local
 pub mod Outcome

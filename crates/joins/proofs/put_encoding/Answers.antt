@@ -14,8 +14,11 @@ entry_at-entry-requires c = (c.requires.0, rw c.if-filled.true at c.requires.2)
 pub write-requires : goal.write-requires
 write-requires c = let i = c.if-filled.true in (c.requires.1, room-filled c.entry_at-entry.ensures (blank_in c.args.second.now) _ c.args.to (rw i at c.requires.3) (rw i at c.requires.4))
 
-pub returns-then-filled : goal.returns-then-filled
-returns-then-filled c = let a = c.args in rw c.if-filled.true (wrote-filled c.entry_at-entry.ensures (blank_in a.second.now) a.out.now _ a.to c.write.result c.write.ensures)
+pub returns-then-filled-clause-after : goal.returns-then-filled-clause-after
+returns-then-filled-clause-after c = let a = c.args in rw c.if-filled.true (wrote-filled c.entry_at-entry.ensures (blank_in a.second.now) a.out.now _ a.to c.write.result c.write.ensures).0
+
+pub returns-then-filled-clause-wrote : goal.returns-then-filled-clause-wrote
+returns-then-filled-clause-wrote c = let a = c.args in rw c.if-filled.true (wrote-filled c.entry_at-entry.ensures (blank_in a.second.now) a.out.now _ a.to c.write.result c.write.ensures).1
 
 pub entry_at-entry-requires-2 : goal.entry_at-entry-requires-2
 entry_at-entry-requires-2 c = (c.requires.1, rw c.if-filled.false at c.requires.2)

@@ -6,6 +6,7 @@ use borrow.Author.Rules.{rules}
 use borrow.Author.Tests.{lt-ltb, le-ltb}
 use denote.Enum.Declared.{tag_of}
 use types.Run.{OneOf, miss}
+use borrow.Enum.Refused.{opened}
 use Rattle.meaning.specs.Refusals.{cut_short}
 use Rattle.reader.specs.Walk.{stopped}
 use Rattle.byte_steps.specs.declared.modes.Mode.{Mode}
@@ -49,4 +50,4 @@ unfolding verdict
 returns-in-Faulty c = rw c.in-Faulty.is
 
 pub returns-in_default : goal.returns-in_default
-returns-in_default c = let a = c.args in rw (missing a.mode a.count a.whole a.deepest c.in_default.keys3)
+returns-in_default c = let a = c.args in rw (missing a.mode a.count a.whole a.deepest (opened c.in_default.in_default-own.keys3))
