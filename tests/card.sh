@@ -24,9 +24,8 @@ cd "$top" || { wrong "there is no folder $top"; finish; }
 host/setup 2>&1 || { wrong "host/setup: exit status $?"; finish; }
 . host/env.sh
 
-# rt holds what the program prints to its file 'stdout', so that is what it prints. It is proved and run
-# here only if something changed since the last time.
-rt check bench_card 2>&1 || wrong "rt check bench_card: exit status $?"
+# The gate's rt ci, which comes before this, holds what the program prints to its file 'stdout': so that
+# is what it prints.
 mapfile -t bench_card <crates/bench_card/stdout
 
 came=$(cd host && cargo run --release --offline --locked -q -p model --bin card) \

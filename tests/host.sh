@@ -71,7 +71,7 @@ fi
 cd "$top" || { wrong "there is no folder $top"; finish; }
 need host/setup
 . host/env.sh
-[ -n "${SHIULBART_ARCHIVE_DIR-}" ] || need rt staticlib board
+[ -n "${SHIULBART_ARCHIVE_DIR-}" ] || need host/archive
 archive=${SHIULBART_ARCHIVE_DIR:-$top/target/staticlib}/libboard.a
 [ -f "$archive" ] || { wrong "there is no $archive"; finish; }
 

@@ -70,4 +70,12 @@ expect '2,049 bytes, a byte at a time' 'no 8 2048' ./judge < <(symbol 2043 | dd 
 expect '2,049 bytes and no end' 'no 8 2048' timeout 30 ./judge < <(head -c 2049 /dev/zero; exec sleep 60 2>/dev/null)
 kill $!
 expect 'from another directory' 'ok 10 3' from_elsewhere <examples/M04-record
+
+# where it cannot read there is no line, and it says why
+came=$(./judge </ 2>/dev/null; echo "exit status $?")
+if [ "$came" = 'exit status 2' ]; then
+    passed=$((passed + 1))
+else
+    wrong "a folder as standard input: expected 'exit status 2', came '$came'"
+fi
 finish

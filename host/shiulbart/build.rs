@@ -1,4 +1,4 @@
-//! Links libboard.a, which `rt staticlib board` proves and writes to target/staticlib at the
+//! Links libboard.a, which `host/archive` proves and writes to target/staticlib at the
 //! repository's top. SHIULBART_ARCHIVE_DIR names another folder to take it from.
 
 use std::env;
@@ -32,7 +32,7 @@ fn main() {
     let archive = folder.join("libboard.a");
     if !archive.is_file() {
         fail(&format!(
-            "there is no {}: run `rt staticlib board` at the repository's top, or set {OTHER_FOLDER}",
+            "there is no {}: run `host/archive` at the repository's top, or set {OTHER_FOLDER}",
             archive.display()
         ));
     }

@@ -1,4 +1,5 @@
-// Every call that a host makes, on byte slices and plain numbers. Each trusts nobody to have looked first. include/shiulbart.h is this page for C.
+// Every call that a host makes, on byte slices and plain numbers. Each trusts nobody to have looked first. `board_c` exports each of them under its
+// name, with the same clauses, and include/shiulbart.h is that page for C.
 #![tactic(auto)]
 
 ghost use Rattle.std.specs.Prelude.{ℕ, ◌<◌, ◌≡◌, List, [], ◌++◌, length};
@@ -19,40 +20,35 @@ use turns::moves::Act;
 use turns::{begun, taken_up, turn};
 
 // Judges an encoding: its length, and its depth as extra, or the refusal.
-#[unsafe(no_mangle)]
-pub extern "C" fn shiulbart_read(bytes: &[u8]) -> Answer
+pub fn shiulbart_read(bytes: &[u8]) -> Answer
     ensures { result ≡ read_answer (reading bytes.now) }
 {
     read_answer(reader::read(bytes))
 }
 
 // Child k of an encoding: its place and length, or a primitive's number as place with extra 1, or the refusal.
-#[unsafe(no_mangle)]
-pub extern "C" fn shiulbart_child(bytes: &[u8], k: u64) -> Answer
+pub fn shiulbart_child(bytes: &[u8], k: u64) -> Answer
     ensures { result ≡ child_answer (reading bytes.now) k }
 {
     child_answer(parts::child(bytes, k))
 }
 
 // Name k of an encoding: its text's place and length, or the refusal.
-#[unsafe(no_mangle)]
-pub extern "C" fn shiulbart_name(bytes: &[u8], k: u64) -> Answer
+pub fn shiulbart_name(bytes: &[u8], k: u64) -> Answer
     ensures { result ≡ name_answer (reading bytes.now) k }
 {
     name_answer(parts::name(bytes, k))
 }
 
 // Checks a sheet: how many bytes of encodings it has as length, how many entries as extra, or the refusal.
-#[unsafe(no_mangle)]
-pub extern "C" fn shiulbart_sheet(sheet: &[u8]) -> Answer
+pub fn shiulbart_sheet(sheet: &[u8]) -> Answer
     ensures { result ≡ sheet_answer (read_sheet sheet_broken sheet.now) }
 {
     sheet_answer(sheets::check(sheet))
 }
 
 // Fills a template with a sheet, into the front of a lent buffer: how many bytes were written as length, or the refusal.
-#[unsafe(no_mangle)]
-pub extern "C" fn shiulbart_fill(template: &[u8], sheet: &[u8], out: &mut [u8]) -> Answer
+pub fn shiulbart_fill(template: &[u8], sheet: &[u8], out: &mut [u8]) -> Answer
     ensures is { result ≡ made_answer (fill_answer template.now sheet.now (length out.old)) }
     ensures buffer { out.new ≡ buffer_after out.old (fill_answer template.now sheet.now (length out.old)) }
 {
@@ -60,8 +56,7 @@ pub extern "C" fn shiulbart_fill(template: &[u8], sheet: &[u8], out: &mut [u8]) 
 }
 
 // Joins two sheets, into the front of a lent buffer: how many bytes were written as length, or the refusal.
-#[unsafe(no_mangle)]
-pub extern "C" fn shiulbart_join(first: &[u8], second: &[u8], out: &mut [u8]) -> Answer
+pub fn shiulbart_join(first: &[u8], second: &[u8], out: &mut [u8]) -> Answer
     ensures is { result ≡ made_answer (join_answer first.now second.now (length out.old)) }
     ensures buffer { out.new ≡ buffer_after out.old (join_answer first.now second.now (length out.old)) }
 {
@@ -69,8 +64,7 @@ pub extern "C" fn shiulbart_join(first: &[u8], second: &[u8], out: &mut [u8]) ->
 }
 
 // Writes the encoding of what a node table means, into the front of a lent buffer: how many bytes were written as length, or the refusal.
-#[unsafe(no_mangle)]
-pub extern "C" fn shiulbart_write(table: &[u8], out: &mut [u8]) -> Answer
+pub fn shiulbart_write(table: &[u8], out: &mut [u8]) -> Answer
     ensures is { result ≡ made_answer (write_answer table.now (length out.old)) }
     ensures buffer { out.new ≡ buffer_after out.old (write_answer table.now (length out.old)) }
 {
@@ -78,16 +72,14 @@ pub extern "C" fn shiulbart_write(table: &[u8], out: &mut [u8]) -> Answer
 }
 
 // The same of a table whose nodes are lent as records, and the rest of it as bytes.
-#[unsafe(no_mangle)]
-pub extern "C" fn shiulbart_write_records(nodes: &[Node], rest: &[u8], out: &mut [u8]) -> Answer
+pub fn shiulbart_write_records(nodes: &[Node], rest: &[u8], out: &mut [u8]) -> Answer
     ensures { (result, out.new) ≡ records_answer nodes.now rest.now out.old }
 {
     made_answer(editor::write_records(nodes, rest, out))
 }
 
 // Makes the node table of an encoding, in the front of a lent buffer: how many bytes were written as length, or the refusal.
-#[unsafe(no_mangle)]
-pub extern "C" fn shiulbart_table(bytes: &[u8], out: &mut [u8]) -> Answer
+pub fn shiulbart_table(bytes: &[u8], out: &mut [u8]) -> Answer
     ensures is { result ≡ made_answer (table_answer bytes.now (length out.old)) }
     ensures buffer { out.new ≡ buffer_after out.old (table_answer bytes.now (length out.old)) }
 {
@@ -95,8 +87,7 @@ pub extern "C" fn shiulbart_table(bytes: &[u8], out: &mut [u8]) -> Answer
 }
 
 // A reader that is fed with parts: the state before any bytes. A state is plain numbers, and the host keeps it between two calls.
-#[unsafe(no_mangle)]
-pub extern "C" fn shiulbart_pieces_start() -> State
+pub fn shiulbart_pieces_start() -> State
     ensures { result ≡ led_to [] }
 {
     pieces::start()
@@ -104,8 +95,7 @@ pub extern "C" fn shiulbart_pieces_start() -> State
 
 // The state after one more part, of whatever length, also of none. A part after the finish changes nothing. The state is worked on in place: what the
 // loop needs at each turn is held beside it, and put back where the part ends. Of a part that is letters alone two numbers change.
-#[unsafe(no_mangle)]
-pub extern "C" fn shiulbart_pieces_part(mut state: State, part: &[u8]) -> State
+pub fn shiulbart_pieces_part(mut state: State, part: &[u8]) -> State
     ensures still { 0 < state.closed → result ≡ state }
     ensures led { (u : List ℕ) → state ≡ led_to u → result ≡ led_to (u ++ part.now) }
 {
@@ -176,8 +166,7 @@ pub struct PiecesEnd {
 }
 
 // Judges all parts joined, as `shiulbart_read` does. With the state that it gives, the finish repeats its answer.
-#[unsafe(no_mangle)]
-pub extern "C" fn shiulbart_pieces_finish(state: State) -> PiecesEnd
+pub fn shiulbart_pieces_finish(state: State) -> PiecesEnd
     ensures closed { result.state ≡ closed_of state }
     ensures led { (u : List ℕ) → Bytes u → closed_of state ≡ closed_of (led_to u) → result.answer ≡ read_answer (reading u) }
 {

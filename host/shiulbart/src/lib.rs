@@ -84,7 +84,7 @@
 //!
 //! # Linking
 //!
-//! The crate links `libboard.a`, which `rt staticlib board` proves and writes to `target/staticlib`
+//! The crate links `libboard.a`, which `host/archive` proves and writes to `target/staticlib`
 //! at the repository's top. To link one from another folder, set `SHIULBART_ARCHIVE_DIR` to its
 //! absolute path when building. The archive is for Linux on x86-64.
 
