@@ -1,6 +1,5 @@
 -- "It trusts no caller to have looked first": no public call asks anything. What a call asks, the whole of its `requires`, is nothing (`emp`, a
--- contract's ⊤ₛ), whatever its lifetimes κs and its arguments a are, in every model w of the logic; and so is what the checker reads of it (`Pre`). The
--- two calls on records have no `Pre` (Plain.antt).
+-- contract's ⊤ₛ), whatever its lifetimes κs and its arguments a are, in every model w of the logic; and so is what the checker reads of it (`Pre`).
 --     read-asks-nothing .. pieces-finish-asks-nothing                 the calls
 --     board-read-asks-nothing .. board-pieces-finish-asks-nothing     the exported calls
 -- Assumes nothing.
@@ -25,6 +24,7 @@ use Rattle.writer.proofs.write.Reads as write-reads
 use Rattle.way_back.specs.contracts.to_table as table
 use Rattle.way_back.proofs.to_table.Reads as table-reads
 use Rattle.editor.specs.contracts.write_records as records
+use Rattle.editor.proofs.write_records.Reads as records-reads
 use Rattle.pieces.specs.contracts.start as pieces-start
 use Rattle.pieces.proofs.start.Reads as pieces-start-reads
 use Rattle.pieces.specs.contracts.finish as pieces-finish
@@ -46,6 +46,7 @@ use Rattle.board.proofs.shiulbart_write.Reads as board-write-reads
 use Rattle.board.specs.contracts.shiulbart_table as board-table
 use Rattle.board.proofs.shiulbart_table.Reads as board-table-reads
 use Rattle.board.specs.contracts.shiulbart_write_records as board-records
+use Rattle.board.proofs.shiulbart_write_records.Reads as board-records-reads
 use Rattle.board.specs.contracts.shiulbart_pieces_start as board-pieces-start
 use Rattle.board.proofs.shiulbart_pieces_start.Reads as board-pieces-start-reads
 use Rattle.board.specs.contracts.shiulbart_pieces_part as board-pieces-part
@@ -106,11 +107,11 @@ module _ (w : World) (κs : Lfts 2) (a : _) where
   board-table-asks-nothing = (refl, tt)
 
 module _ (w : World) (κs : Lfts 3) (a : _) where
-  pub records-asks-nothing : (records.clauses w.𝓛 w.𝓜.mem w.𝓡.run κs a).requires tt ≡ emp w.𝓤
-  records-asks-nothing = refl
+  pub records-asks-nothing : ((records.clauses w.𝓛 w.𝓜.mem w.𝓡.run κs a).requires tt ≡ emp w.𝓤) × records-reads.Pre κs a
+  records-asks-nothing = (refl, tt)
 
-  pub board-records-asks-nothing : (board-records.clauses w.𝓛 w.𝓜.mem w.𝓡.run κs a).requires tt ≡ emp w.𝓤
-  board-records-asks-nothing = refl
+  pub board-records-asks-nothing : ((board-records.clauses w.𝓛 w.𝓜.mem w.𝓡.run κs a).requires tt ≡ emp w.𝓤) × board-records-reads.Pre κs a
+  board-records-asks-nothing = (refl, tt)
 
 module _ (w : World) (κs : Lfts 0) (a : _) where
   pub pieces-start-asks-nothing : ((pieces-start.clauses w.𝓛 w.𝓜.mem w.𝓡.run κs a).requires tt ≡ emp w.𝓤) × pieces-start-reads.Pre κs a

@@ -35,9 +35,9 @@ returns-then-halted-clause-led c = let z = ap sized c.mode_of-mode.ensures in
 
 -- before the first turn: the state is good, and its last field has 16 entries
 pub loop-k-init : goal.loop-k-init
-loop-k-init c = let fields = a.well-formed.0.1.1 in (
+loop-k-init c = (
       rw (c.begun-t.ensures, c.level_of.ensures, c.mode_of-mode.ensures)
-          (inv-start c.args.part.now c.args.t1 (rw c.mode_of-mode.ensures at (c.halted.ensures.no c.if-halted.false).1) (sym (length-map c.args.t1.levels _) ∙ fields.1.1.1.1.1.1.1.1.0.1.0.1)),
+          (inv-start c.args.part.now c.args.state (rw c.mode_of-mode.ensures at (c.halted.ensures.no c.if-halted.false).1) (let fields = c.well_formed.0.1.1 in fields.1.1.1.1.1.1.1.1.0.1.0.1)),
       refl,
     )
 
