@@ -42,7 +42,7 @@ use Rattle.answers.specs.Answers.{refused, read_put, child_put, name_put, sheet_
 use Rattle.board.proofs.Plain.{Parameters}
 use Rattle.answers.proofs.Small.{exported, exported-child, exported-name, exported-sheet}
 use Rattle.promises.specs.Told.{Answered, wrote, Makes}
-use Rattle.promises.proofs.Calls.{Lent, One, Two, Three, OnBytes, OnPart, Into, IntoOfTwo, IntoOfRecords, Read, ChildOf, NameOf, Check, Fill, Join, Write, WriteRecords, Tabled, BoardRead, BoardChild, BoardName, BoardSheet, BoardFill, BoardJoin, BoardWrite, BoardRecords, BoardTable}
+use Rattle.promises.proofs.Calls.{Lent, Buffer, One, Two, Three, OnBytes, OnPart, Into, IntoOfTwo, IntoOfRecords, Read, ChildOf, NameOf, Check, Fill, Join, Write, WriteRecords, Tabled, BoardRead, BoardChild, BoardName, BoardSheet, BoardFill, BoardJoin, BoardWrite, BoardRecords, BoardTable}
 use Rattle.promises.proofs.Says.{MakesIn, read-says, child-says, name-says, check-says, fill-says, join-says, write-says, records-says, table-says}
 use Rattle.promises.proofs.Front.{front-holds, all-kept}
 use Rattle.promises.proofs.Refusing.{positive, read-refuses, read-numbers, child-refuses, name-refuses, part-numbers, fill-refuses, fill-numbers, join-refuses, join-numbers, write-refuses, write-numbers, table-refuses, table-numbers}
@@ -67,11 +67,11 @@ module _ {R Q S : Type 0} where
   part-as c h = record { κs = c.κs; a = c.a; s = c.s; allowed = h; lent = c.lent; asked = c.asked; small = c.small }
 
 module _ {R Q : Type 0} {before after : List ℕ} {r : R} {q : Q} where
-  into-as : {P : Lfts 2 → Two Lent Lent → R → Two Lent Lent → Type 0} {P' : Lfts 2 → Two Lent Lent → Q → Two Lent Lent → Type 0} {bytes : List ℕ}
+  into-as : {P : Lfts 2 → Two Lent Buffer → R → Two Lent Buffer → Type 0} {P' : Lfts 2 → Two Lent Buffer → Q → Two Lent Buffer → Type 0} {bytes : List ℕ}
       (c : Into P bytes before r after) → P' c.κs c.a q c.s → Into P' bytes before q after
   into-as c h = record { κs = c.κs; a = c.a; s = c.s; allowed = h; lent = c.lent; buffer_lent = c.buffer_lent; buffer-left = c.buffer-left; small = c.small }
 
-  two-as : {P : Lfts 3 → Three Lent Lent Lent → R → Three Lent Lent Lent → Type 0} {P' : Lfts 3 → Three Lent Lent Lent → Q → Three Lent Lent Lent → Type 0} {first second : List ℕ}
+  two-as : {P : Lfts 3 → Three Lent Lent Buffer → R → Three Lent Lent Buffer → Type 0} {P' : Lfts 3 → Three Lent Lent Buffer → Q → Three Lent Lent Buffer → Type 0} {first second : List ℕ}
       (c : IntoOfTwo P first second before r after) → P' c.κs c.a q c.s → IntoOfTwo P' first second before q after
   two-as c h = record { κs = c.κs; a = c.a; s = c.s; allowed = h; first-lent = c.first-lent; second-lent = c.second-lent; buffer_lent = c.buffer_lent; buffer-left = c.buffer-left; small = c.small }
 

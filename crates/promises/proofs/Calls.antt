@@ -4,13 +4,14 @@
 -- changed. A state goes in and out by value, so what a call gave is another state, and the one that it was given is as it was.
 --     OnBytes, OnPart, Into, IntoOfTwo, IntoOfRecords     a run, by what a call is lent, whatever its contract
 --     OnNothing, OnState, OnStateAndBytes                 a run of a call on a state
---     Lent, One, Two, Three                               what a call is lent: bytes, and its parameters one after the other
+--     Lent, Buffer, One, Two, Three                       what a call is lent: bytes, a buffer, and its parameters one after the other
 -- Assumes nothing.
 use Prim.Native.Nat.{ℕ}
 use mathlib.Core.Path.{◌≡◌}
 use mathlib.Core.List.{List, map}
 use contract.Lifetimes.{Lfts}
 use denote.Ref.{Bor}
+use denote.MutBor.{MutBor}
 use Rattle.meaning.specs.Within.{Bytes}
 use Rattle.meaning.specs.TableReading.{NodesFit}
 use Rattle.buffers.specs.declared.Made.{Made}
@@ -48,6 +49,10 @@ use Rattle.board.proofs.Plain.{Parameters, RecordsPost, BoardRecordsPost}
 abbrev pub Lent : Type 0
 Lent = Bor (List ℕ)
 
+-- a buffer that is lent to be written: where it stands, and what it holds
+abbrev pub Buffer : Type 0
+Buffer = MutBor (List ℕ)
+
 -- the parameters of a call, one after the other
 abbrev pub One : Type 0 → Type 0
 One A = A × Unit {0}
@@ -78,10 +83,10 @@ pub record OnPart {R S : Type 0} (Post : Lfts 1 → Two Lent ℕ → R → S →
   pub small : Bytes bytes
 
 -- a call that writes what it makes of lent bytes said r; the lent buffer held before, and then after
-pub record Into {R : Type 0} (Post : Lfts 2 → Two Lent Lent → R → Two Lent Lent → Type 0) (bytes before : List ℕ) (r : R) (after : List ℕ) : Type 0 where
+pub record Into {R : Type 0} (Post : Lfts 2 → Two Lent Buffer → R → Two Lent Buffer → Type 0) (bytes before : List ℕ) (r : R) (after : List ℕ) : Type 0 where
   pub κs : Lfts 2
-  pub a : Two Lent Lent
-  pub s : Two Lent Lent
+  pub a : Two Lent Buffer
+  pub s : Two Lent Buffer
   pub allowed : Post κs a r s
   pub lent : a.0.now ≡ bytes
   pub buffer_lent : a.1.0.now ≡ before
@@ -89,10 +94,10 @@ pub record Into {R : Type 0} (Post : Lfts 2 → Two Lent Lent → R → Two Lent
   pub small : Bytes bytes
 
 -- a call that writes what it makes of two that are lent
-pub record IntoOfTwo {R : Type 0} (Post : Lfts 3 → Three Lent Lent Lent → R → Three Lent Lent Lent → Type 0) (first second before : List ℕ) (r : R) (after : List ℕ) : Type 0 where
+pub record IntoOfTwo {R : Type 0} (Post : Lfts 3 → Three Lent Lent Buffer → R → Three Lent Lent Buffer → Type 0) (first second before : List ℕ) (r : R) (after : List ℕ) : Type 0 where
   pub κs : Lfts 3
-  pub a : Three Lent Lent Lent
-  pub s : Three Lent Lent Lent
+  pub a : Three Lent Lent Buffer
+  pub s : Three Lent Lent Buffer
   pub allowed : Post κs a r s
   pub first-lent : a.0.now ≡ first
   pub second-lent : a.1.0.now ≡ second

@@ -48,7 +48,7 @@ use Rattle.answers.proofs.Small.{Given, exported, exported-child, exported-name,
 use Rattle.board.proofs.Small.{records-fit}
 use Rattle.promises.specs.Order.{read_numbers, PartRefuses, FillRefuses, JoinRefuses, WriteRefuses, RecordsRefuses, TableRefuses, CheckRefused}
 use Rattle.promises.specs.Told.{FrontOnly, Tells, Keeps}
-use Rattle.promises.proofs.Calls.{Lent, Two, Three, Into, IntoOfTwo, BoardRead, BoardChild, BoardName, BoardSheet, BoardFill, BoardJoin, BoardWrite, BoardRecords, BoardTable}
+use Rattle.promises.proofs.Calls.{Lent, Buffer, Two, Three, Into, IntoOfTwo, BoardRead, BoardChild, BoardName, BoardSheet, BoardFill, BoardJoin, BoardWrite, BoardRecords, BoardTable}
 use Rattle.promises.proofs.Once.{read-once, child-once, name-once, check-once, fill-once, join-once, write-once, records-once, table-once}
 use Rattle.promises.proofs.Refusing.{positive, read-refuses, read-numbers, child-refuses, name-refuses, part-numbers, check-refuses, check-numbers, fill-refuses, fill-numbers, fill-kept, fill-front, join-refuses, join-numbers, join_kept, join_front, write-refuses, write-numbers, write_kept, write-front, table-refuses, table-numbers, table_kept, table-front}
 use Rattle.promises.proofs.Records.{records-refuses, records-numbers, records-kept, records-front}
@@ -57,6 +57,10 @@ use Rattle.promises.proofs.Below.{Below, alike, read_below, child-below, name_be
 -- a slice lent at some place, for some time
 abbrev pub lent_slice : {A : Type 0} → List A → Bor (List A)
 lent_slice w = record { ref_ptr = (0, 0); now = w }
+
+-- a buffer that is lent, wherever it stands and whatever its name
+abbrev lent_buffer : List ℕ → Buffer
+lent_buffer w = record { ref_ptr = (0, 0); ghost_name = 0; now = w }
 
 abbrev pub some1 : Lfts 1
 some1 = ([], tt)
@@ -85,12 +89,12 @@ pub board-sheet-runs : (sheet : List ℕ) → Bytes sheet → (r : Answer) × Bo
 board-sheet-runs sheet h = (_, record { κs = some1; a = (lent_slice sheet, tt); s = (lent_slice sheet, tt); allowed = refl; lent = refl; small = h }, given-fits (exported-sheet sheet h))
 
 -- A run of a call that writes, made of what its contract allows.
-two_run : {Post : Lfts 3 → Three Lent Lent Lent → Answer → Three Lent Lent Lent → Type 0} {first second before after : List ℕ} {r : Answer}
-    → Post some3 (lent_slice first, (lent_slice second, (lent_slice before, tt))) r (lent_slice first, (lent_slice second, (lent_slice after, tt))) → Bytes first × Bytes second → IntoOfTwo Post first second before r after
+two_run : {Post : Lfts 3 → Three Lent Lent Buffer → Answer → Three Lent Lent Buffer → Type 0} {first second before after : List ℕ} {r : Answer}
+    → Post some3 (lent_slice first, (lent_slice second, (lent_buffer before, tt))) r (lent_slice first, (lent_slice second, (lent_buffer after, tt))) → Bytes first × Bytes second → IntoOfTwo Post first second before r after
 two_run p h = record { κs = some3; a = (_, (_, (_, tt))); s = (_, (_, (_, tt))); allowed = p; first-lent = refl; second-lent = refl; buffer_lent = refl; buffer-left = refl; small = h }
 
-into-run : {Post : Lfts 2 → Two Lent Lent → Answer → Two Lent Lent → Type 0} {bytes before after : List ℕ} {r : Answer}
-    → Post some2 (lent_slice bytes, (lent_slice before, tt)) r (lent_slice bytes, (lent_slice after, tt)) → Bytes bytes → Into Post bytes before r after
+into-run : {Post : Lfts 2 → Two Lent Buffer → Answer → Two Lent Buffer → Type 0} {bytes before after : List ℕ} {r : Answer}
+    → Post some2 (lent_slice bytes, (lent_buffer before, tt)) r (lent_slice bytes, (lent_buffer after, tt)) → Bytes bytes → Into Post bytes before r after
 into-run p h = record { κs = some2; a = (_, (_, tt)); s = (_, (_, tt)); allowed = p; lent = refl; buffer_lent = refl; buffer-left = refl; small = h }
 
 pub board-fill-runs : (template sheet before : List ℕ) → Bytes template → Bytes sheet → (r : Answer) × (after : List ℕ) × BoardFill template sheet before r after × Fits r
@@ -106,7 +110,7 @@ pub board-records-runs : (nodes : List Node) (rest before : List ℕ) → NodesF
 board-records-runs nodes rest before h k = (
   _,
   _,
-  record { κs = some3; a = (lent_slice nodes, (lent_slice rest, (lent_slice before, tt))); s = (lent_slice nodes, (lent_slice rest, (lent_slice _, tt))); allowed = refl; nodes-lent = refl; rest-lent = refl; buffer_lent = refl; buffer-left = refl; small = (h, k) },
+  record { κs = some3; a = (lent_slice nodes, (lent_slice rest, (lent_buffer before, tt))); s = (lent_slice nodes, (lent_slice rest, (lent_buffer _, tt))); allowed = refl; nodes-lent = refl; rest-lent = refl; buffer_lent = refl; buffer-left = refl; small = (h, k) },
   records-fit nodes rest before,
 )
 

@@ -45,7 +45,7 @@ use Rattle.parts.specs.declared.FoundName.TheVariants as name
 use Rattle.parts.specs.Said.{told_child, child_said, name_said}
 use Rattle.sheets.specs.declared.Checked.{Checked}
 use Rattle.sheets.specs.Said.{checked}
-use Rattle.promises.specs.Order.{read_numbers, PartRefuses, encoding_bad, no_part, deep, long, unfit, no_room, FillRefuses, template_bad, sheet_bad, filled_bad, JoinRefuses, entries_over, entry_bad, bytes_over, sheet_no_room, first_bad, second_bad, joined_bad, WriteRefuses, table_bad, root_bad, TableRefuses, bytes_bad, table_no_room, CheckRefused}
+use Rattle.promises.specs.Order.{read_numbers, PartRefuses, encoding_bad, no_part, deep, long, unfit, no_room, MadeRefuses, JoinedRefuses, FillRefuses, template_bad, sheet_bad, filled_bad, JoinRefuses, entries_over, entry_bad, bytes_over, sheet_no_room, first_bad, second_bad, joined_bad, WriteRefuses, table_bad, root_bad, TableRefuses, bytes_bad, table_no_room, CheckRefused}
 use Rattle.promises.specs.Told.{FrontOnly}
 use Rattle.promises.proofs.Calls.{Read, ChildOf, NameOf, Check, Fill, Join, Write, Tabled}
 use Rattle.promises.proofs.Says.{read-says, child-says, name-says, check-says, Says, fill-says, join-says, write-says, table-says}
@@ -147,30 +147,42 @@ pub part-numbers : {A : Type 0} {parts : Shape → List A} {bytes : List ℕ} {k
 part-numbers {A} {parts} {bytes} (encoding_bad h) = eight bytes h
 part-numbers (no_part h l) = search (here, further) depth 13
 
+-- What a made shape is refused with is among those of `fill`.
+made-for-fill : {s : Shape} {room n p : ℕ} → MadeRefuses s room n p → OneOf n (read_numbers ++ (sheet_broken ∷ made_too_deep ∷ made_too_long ∷ buffer_short ∷ []))
+made-for-fill (unfit (deep l)) = search (here, further) depth 13
+made-for-fill (unfit (long d l)) = search (here, further) depth 13
+made-for-fill (no_room f l) = search (here, further) depth 13
+
 -- Those of `fill`: 1 to 8, 13, 15, 16, 12.
 pub fill-numbers : {template sheet : List ℕ} {room n p : ℕ} → FillRefuses template sheet room n p → OneOf n (read_numbers ++ (sheet_broken ∷ made_too_deep ∷ made_too_long ∷ buffer_short ∷ []))
 fill-numbers {template} (template_bad h) = eight template h
 fill-numbers (sheet_bad h g) = search (here, further) depth 13
-fill-numbers (filled_bad h g (unfit (deep l))) = search (here, further) depth 13
-fill-numbers (filled_bad h g (unfit (long d l))) = search (here, further) depth 13
-fill-numbers (filled_bad h g (no_room f l)) = search (here, further) depth 13
+fill-numbers (filled_bad h g m) = made-for-fill m
+
+-- What a joined sheet is refused with is among those of `join`.
+joined-for-join : {σ : Sheet} {room n p : ℕ} → JoinedRefuses σ room n p → OneOf n (sheet_broken ∷ second_broken ∷ joined_too_large ∷ made_too_deep ∷ made_too_long ∷ buffer_short ∷ [])
+joined-for-join (entries_over l) = search (here, further)
+joined-for-join (entry_bad before after e l q f (deep m)) = search (here, further)
+joined-for-join (entry_bad before after e l q f (long d m)) = search (here, further)
+joined-for-join (bytes_over l f m) = search (here, further)
+joined-for-join (sheet_no_room l f m r) = search (here, further) depth 7
 
 -- Those of `join`: 13, 14, 17, 15, 16, 12.
 pub join-numbers : {first second : List ℕ} {room n p : ℕ} → JoinRefuses first second room n p → OneOf n (sheet_broken ∷ second_broken ∷ joined_too_large ∷ made_too_deep ∷ made_too_long ∷ buffer_short ∷ [])
 join-numbers (first_bad h) = search (here, further)
 join-numbers (second_bad h g) = search (here, further)
-join-numbers (joined_bad h g (entries_over l)) = search (here, further)
-join-numbers (joined_bad h g (entry_bad before after e l q f (deep m))) = search (here, further)
-join-numbers (joined_bad h g (entry_bad before after e l q f (long d m))) = search (here, further)
-join-numbers (joined_bad h g (bytes_over l f m)) = search (here, further)
-join-numbers (joined_bad h g (sheet_no_room l f m r)) = search (here, further) depth 7
+join-numbers (joined_bad h g j) = joined-for-join j
+
+-- What a made shape is refused with is among those of `write`.
+made-for-write : {s : Shape} {room n p : ℕ} → MadeRefuses s room n p → OneOf n (section_broken ∷ node_broken ∷ name_broken ∷ made_too_deep ∷ made_too_long ∷ buffer_short ∷ [])
+made-for-write (unfit (deep l)) = search (here, further)
+made-for-write (unfit (long d l)) = search (here, further)
+made-for-write (no_room f l) = search (here, further) depth 7
 
 -- Those of `write`: 9 to 11, 15, 16, 12.
 pub write-numbers : {table : List ℕ} {room n p : ℕ} → WriteRefuses table room n p → OneOf n (section_broken ∷ node_broken ∷ name_broken ∷ made_too_deep ∷ made_too_long ∷ buffer_short ∷ [])
 write-numbers {table} {room} {n} {p} (table_bad h) = let f = table-refusal table n p h in from 9 n f.low λ h. from 10 n h λ h. from 11 n h λ h. absurd (omega (arith, f.high))
-write-numbers (root_bad h (unfit (deep l))) = search (here, further)
-write-numbers (root_bad h (unfit (long d l))) = search (here, further)
-write-numbers (root_bad h (no_room f l)) = search (here, further) depth 7
+write-numbers (root_bad h m) = made-for-write m
 
 -- Those of `to_table`: 1 to 8, 12.
 pub table-numbers : {bytes : List ℕ} {room n p : ℕ} → TableRefuses bytes room n p → OneOf n (read_numbers ++ (buffer_short ∷ []))
