@@ -1,8 +1,7 @@
 -- `bench_card::inputs::put_nested` ends, and stays inside the buffer.
-use borrow.Author.Rules.{rules}
 use mathlib.Core.Path.{◌≡◌}
 use Prim.Native.Nat.{◌-◌, ◌≤◌}
-use lib.ListN.{length, length-set}
+use lib.ListN.{length}
 use Rattle.bench_card.proofs.inputs.put_nested.Given as goal
 
 abbrev pub invariant-loop-i : goal.invariant-loop-i

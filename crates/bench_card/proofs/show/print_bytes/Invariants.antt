@@ -1,11 +1,10 @@
 -- `bench_card::show::print_bytes` ends, and stays inside the bytes.
-use borrow.Author.Rules.{rules}
 use Prim.Native.Nat.{◌-◌, ◌≤◌}
 use lib.ListN.{length}
 use Rattle.bench_card.proofs.show.print_bytes.Given as goal
 
 abbrev pub invariant-loop-at : goal.invariant-loop-at
-invariant-loop-at l = at ≤ length l.bytes
+invariant-loop-at g l = l.at ≤ length l.bytes
 
 abbrev pub decreases-loop-at : goal.decreases-loop-at
-decreases-loop-at l = length l.bytes - at
+decreases-loop-at g l = length l.bytes - l.at

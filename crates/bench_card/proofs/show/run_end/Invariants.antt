@@ -1,5 +1,4 @@
 -- `bench_card::show::run_end` ends, and its place is after the first byte and inside the bytes.
-use borrow.Author.Rules.{rules}
 use Prim.Native.Nat.{◌-◌, ◌≤◌, ◌<◌}
 use lib.ListN.{length}
 use Rattle.bench_card.proofs.show.run_end.Given as goal
