@@ -17,7 +17,7 @@ use Rattle.meaning.proofs.Rules.{facts, rule}
 use Rattle.leaves.proofs.Numbers.{steps, leb-steps}
 use Rattle.payloads.specs.declared.Text.TheVariants.{Whole, Bad}
 use Rattle.payloads.specs.Payload.{label_at, text_at, text_from, named}
-use Rattle.reader.specs.Walk.{stopped, after, walk_items, walk_shape, walk_all, shape_with, depths}
+use Rattle.reader.specs.Walk.{stopped, walk_items, walk_shape, walk_all, shape_with, depths}
 use Rattle.reader.proofs.Steps.{shape-by}
 use Rattle.byte_steps.specs.declared.modes.Items.{Items}
 use Rattle.byte_steps.specs.declared.modes.Items.TheVariants.{Plain, Bare, Fields, Texts}

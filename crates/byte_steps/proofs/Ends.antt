@@ -8,7 +8,7 @@
 use mathlib.Core.Path.{◌≡◌, refl, ap, ◌∙◌}
 use mathlib.Core.Bool.{Bool, true, false, ◌&&◌}
 use mathlib.Core.List.{List, [], ◌∷◌}
-use Prim.Native.Nat.{ℕ, zero, suc, ◌+◌, ◌-◌}
+use Prim.Native.Nat.{ℕ, zero, suc, ◌+◌}
 use Rattle.payloads.specs.Payload.{primitive, primitive_at, label_at, named, shaped}
 use Rattle.reader.specs.Walk.{Out, came, stopped, after, walk_items, walk_shape, depths}
 use Rattle.byte_steps.specs.declared.modes.Items.{Items}

@@ -22,7 +22,7 @@ use Rattle.payloads.specs.Payload.{opening_at}
 use Rattle.payloads.specs.declared.first.Kind.{Kind}
 use Rattle.payloads.specs.declared.first.Kind.TheVariants.{Array, Map, Record, Function, Symbol, Variable}
 use Rattle.reader.specs.Said.{said}
-use Rattle.reader.specs.Walk.{came, stopped, after, walk_shape, walk_all, depths}
+use Rattle.reader.specs.Walk.{stopped, walk_shape, walk_all, depths}
 use Rattle.reader.proofs.Whole.{judged, walk-said}
 use Rattle.byte_steps.specs.declared.modes.Items.{Items}
 use Rattle.byte_steps.specs.declared.modes.Items.TheVariants.{Plain, Bare, Fields, Texts}

@@ -22,7 +22,7 @@ use Rattle.reader.proofs.Steps.{made-depth}
 use Rattle.byte_steps.specs.declared.modes.Level.{Level}
 use Rattle.byte_steps.specs.declared.modes.Mode.TheVariants as Now
 use Rattle.byte_steps.specs.Automaton.{plain, size_taken, count_due, level_of, whole_of, opened}
-use Rattle.byte_steps.proofs.Meant.{deepest_of, prims, closes, listed, rest, resume, opens, body, window, left_for, meant, Fits, Room, Ending, Nested, Held, Good, GoodRun}
+use Rattle.byte_steps.proofs.Meant.{deepest_of, prims, closes, listed, rest, resume, body, window, left_for, meant, Fits, Room, Ending, Nested, Held, Good, GoodRun}
 use Rattle.byte_steps.proofs.Ends.{after-after, after_same}
 use Rattle.byte_steps.proofs.Due.{nested-le, settled}
 use Rattle.byte_steps.proofs.Heads.{stands}

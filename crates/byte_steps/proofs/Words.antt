@@ -17,7 +17,7 @@ use Rattle.meaning.proofs.Window.{window-none, window-some}
 use Rattle.leaves.specs.Leb.{leb_at}
 use Rattle.leaves.specs.declared.Leb.TheVariants.{Number, Fault}
 use Rattle.payloads.specs.Payload.{text_at, text_from, named}
-use Rattle.reader.specs.Walk.{Out, stopped, after, walk_all, depths}
+use Rattle.reader.specs.Walk.{Out, stopped, walk_all, depths}
 use Rattle.byte_steps.specs.declared.modes.Items.{Items}
 use Rattle.byte_steps.specs.declared.modes.Items.TheVariants.{Plain, Bare, Fields, Texts}
 use Rattle.byte_steps.specs.declared.modes.Level.{Level}

@@ -3,7 +3,7 @@
 --     section-made                   all records, put one after the other, are the section's bytes
 --     outcome                        what `write_section` says and leaves, of the section that `put_records` made, is the outcome
 -- Assumes nothing.
-use Prim.Native.Nat.{ℕ, zero, suc, ◌*◌, ◌+◌, ◌≤◌, ◌<◌}
+use Prim.Native.Nat.{ℕ, zero, suc, ◌*◌, ◌≤◌, ◌<◌}
 use mathlib.Core.Path.{◌≡◌, refl, sym}
 use mathlib.Core.List.{List, ◌++◌, map, map-append, append-nil}
 use native.Mathlib.Nat.{zero-add}

@@ -35,7 +35,7 @@ use Rattle.turns.specs.declared.moves.Act.TheVariants.{Rest, Stay, Push, Pop}
 use Rattle.turns.specs.declared.moves.Moved.{Moved}
 use Rattle.items.specs.declared.Item.TheVariants.{Whole}
 use Rattle.items.specs.declared.Run as Taken
-use Rattle.byte_steps.specs.Automaton.{taken, entered, step, fed, run, Run, after_child, with_due, text_done, settle}
+use Rattle.byte_steps.specs.Automaton.{taken, entered, step, fed, run, after_child, with_due, text_done, settle}
 use Rattle.turns.specs.Moves.{resting, sized, between_moved, opening_moved}
 use Rattle.items.specs.Fed.{bare, named, item_mode, WindowEnd, ShapeFed, RunFed}
 use Rattle.turns.specs.Leads.{idle, counted_to, turned, stayed, rested, waited, onward, Lighter, Leads}

@@ -1,5 +1,4 @@
 -- `board::shiulbart_child` meets its contract: what is said of a child fits, and is what the call says.
-use borrow.Author.Rules.{rules}
 use native.Mathlib.Omega.{arith}
 use mathlib.Core.Path.{◌∙◌, ap}
 use Rattle.meaning.proofs.Window.{bytes-by-index}

@@ -1,5 +1,4 @@
 -- `board::shiulbart_fill` meets its contract: what is said of a fill fits, and is what the call says; the buffer is as the call below left it.
-use borrow.Author.Rules.{rules}
 use mathlib.Core.Path.{◌∙◌, ap}
 use Rattle.meaning.specs.Answers.{fill_answer}
 use Rattle.meaning.proofs.Bounds.{fill-small}

@@ -1,5 +1,4 @@
 -- `board::shiulbart_join` meets its contract: what is said of a joining fits, and is what the call says; the buffer is as the call below left it.
-use borrow.Author.Rules.{rules}
 use native.Mathlib.Omega.{arith}
 use mathlib.Core.Path.{◌∙◌, ap}
 use Rattle.meaning.specs.Answers.{join_answer}

@@ -1,5 +1,4 @@
 -- `board::shiulbart_pieces_finish` meets its contract: what is said at the finish fits, and is what the call says.
-use borrow.Author.Rules.{rules}
 use mathlib.Core.Path.{◌∙◌, ap}
 use Rattle.answers.specs.Answers.{read_put}
 use Rattle.answers.proofs.Small.{exported}

@@ -1,13 +1,10 @@
 -- `board::shiulbart_pieces_part` meets its contract. The laws of its loop are those of pieces/proofs/Looping.antt. In a turn of the loop, l is where the
 -- turn begins, t what it led to, and told which act that was.
-use mathlib.Core.Path.{◌≡◌, refl, ap, sym, ◌∙◌}
+use mathlib.Core.Path.{refl, ap, ◌∙◌}
 use native.Mathlib.Omega.{arith}
-use lib.ListN.{length-map}
-use borrow.Author.Rules.{rules}
-use Rattle.turns.specs.Leads.{to_do}
 use Rattle.turns.specs.Moves.{sized}
 use Rattle.pieces.proofs.Led.{led-room, led-open, letters-led}
-use Rattle.pieces.proofs.Looping.{Inv, inv-start, stay-less, inv-stay, push-room, push-less, inv-push, pop-some, pop-less, inv-pop, rest-led}
+use Rattle.pieces.proofs.Looping.{inv-start, stay-less, inv-stay, push-room, push-less, inv-push, pop-some, pop-less, inv-pop, rest-led}
 use Rattle.board.proofs.shiulbart_pieces_part.Goals as goal
 
 -- the part is letters of one text
@@ -36,10 +33,10 @@ returns-then-halted-clause-led c = let z = ap sized c.mode_of-mode.ensures in
 -- before the first turn: the state is good, and its last field has 16 entries
 pub loop-k-init : goal.loop-k-init
 loop-k-init c = (
-      rw (c.begun-t.ensures, c.level_of.ensures, c.mode_of-mode.ensures)
-          (inv-start c.args.part.now c.args.state (rw c.mode_of-mode.ensures at (c.halted.ensures.no c.if-halted.false).1) (let fields = c.well_formed.0.1.1 in fields.1.1.1.1.1.1.1.1.0.1.0.1)),
-      refl,
-    )
+  rw (c.begun-t.ensures, c.level_of.ensures, c.mode_of-mode.ensures)
+      (inv-start c.args.part.now c.args.state (rw c.mode_of-mode.ensures at (c.halted.ensures.no c.if-halted.false).1) (let fields = c.well_formed.0.1.1 in fields.1.1.1.1.1.1.1.1.0.1.0.1)),
+  refl,
+)
 
 pub turn-t-requires : goal.turn-t-requires
 turn-t-requires c = let l = c.loop-k.invariant.0 in (l.within, l.fair)

@@ -1,5 +1,4 @@
 -- `board::shiulbart_write` meets its contract: what is said of what is written fits, and is what the call says; the buffer is as the call below left it.
-use borrow.Author.Rules.{rules}
 use mathlib.Core.Path.{◌∙◌, ap}
 use Rattle.meaning.specs.Answers.{write_answer}
 use Rattle.meaning.proofs.TableAnswers.{write-small}

@@ -1,5 +1,4 @@
 -- `buffers::put_byte` meets its contract.
-use borrow.Author.Rules.{rules}
 use Rattle.buffers.proofs.Written.{written_one}
 use Rattle.buffers.proofs.put_byte.Goals as goal
 

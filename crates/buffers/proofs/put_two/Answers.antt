@@ -1,5 +1,4 @@
 -- `buffers::put_two` meets its contract.
-use borrow.Author.Rules.{rules}
 use native.Mathlib.Omega.{arith}
 use mathlib.Core.List.{[], ◌∷◌}
 use Prim.Native.Nat.{◌%◌, ◌/◌}

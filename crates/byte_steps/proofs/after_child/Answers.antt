@@ -1,5 +1,4 @@
 -- `byte_steps::after_child` meets its contract.
-use borrow.Author.Rules.{rules}
 use Rattle.byte_steps.proofs.after_child.Goals as goal
 
 pub returns-then-primitive : goal.returns-then-primitive

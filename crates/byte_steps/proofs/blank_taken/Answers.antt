@@ -1,5 +1,4 @@
 -- `byte_steps::blank_taken` meets its contract.
-use borrow.Author.Rules.{rules}
 use Rattle.meaning.proofs.Rules.{tests}
 use Rattle.byte_steps.specs.Automaton.{blank_taken}
 use Rattle.byte_steps.proofs.blank_taken.Goals as goal

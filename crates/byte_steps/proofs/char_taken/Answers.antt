@@ -1,5 +1,4 @@
 -- `byte_steps::char_taken` meets its contract.
-use borrow.Author.Rules.{rules}
 use Rattle.meaning.proofs.Rules.{tests}
 use Rattle.byte_steps.specs.Automaton.{char_taken}
 use Rattle.byte_steps.proofs.char_taken.Goals as goal

@@ -1,5 +1,4 @@
 -- `byte_steps::count_taken` meets its contract.
-use borrow.Author.Rules.{rules}
 use Rattle.meaning.proofs.Rules.{tests}
 use Rattle.byte_steps.specs.Automaton.{count_taken, leb_first}
 use Rattle.byte_steps.proofs.count_taken.Goals as goal

@@ -1,7 +1,6 @@
 -- `byte_steps::first_taken` meets its contract.
 use mathlib.Core.Path.{sym, ◌∙◌}
 use native.Mathlib.Omega.{arith}
-use borrow.Author.Rules.{rules}
 use Rattle.meaning.proofs.Rules.{tests}
 use Rattle.meaning.specs.FirstByte.{class_of}
 use Rattle.byte_steps.specs.Automaton.{first_taken}

@@ -1,5 +1,4 @@
 -- `byte_steps::item_due` meets its contract.
-use borrow.Author.Rules.{rules}
 use Rattle.byte_steps.proofs.item_due.Goals as goal
 
 pub returns-in-Plain : goal.returns-in-Plain

@@ -1,5 +1,4 @@
 -- `byte_steps::leb_more` meets its contract.
-use borrow.Author.Rules.{rules}
 use Rattle.meaning.proofs.Rules.{tests}
 use Rattle.byte_steps.proofs.leb_more.Goals as goal
 

@@ -1,5 +1,4 @@
 -- `byte_steps::length_due` meets its contract.
-use borrow.Author.Rules.{rules}
 use Rattle.meaning.proofs.Rules.{tests}
 use Rattle.byte_steps.specs.Automaton.{length_due}
 use Rattle.byte_steps.proofs.length_due.Goals as goal

@@ -1,5 +1,4 @@
 -- `byte_steps::length_more` meets its contract.
-use borrow.Author.Rules.{rules}
 use Rattle.meaning.proofs.Rules.{tests}
 use Rattle.byte_steps.specs.Automaton.{length_more, leb_second}
 use Rattle.byte_steps.proofs.length_more.Goals as goal

@@ -1,5 +1,4 @@
 -- `byte_steps::shape_due` meets its contract.
-use borrow.Author.Rules.{rules}
 use Rattle.meaning.proofs.Rules.{tests}
 use Rattle.byte_steps.specs.Automaton.{shape_due}
 use Rattle.byte_steps.proofs.shape_due.Goals as goal

@@ -1,5 +1,4 @@
 -- `byte_steps::size_taken` meets its contract.
-use borrow.Author.Rules.{rules}
 use Rattle.meaning.proofs.Rules.{tests}
 use Rattle.byte_steps.specs.Automaton.{size_taken}
 use Rattle.byte_steps.proofs.size_taken.Goals as goal

@@ -1,5 +1,4 @@
 -- `byte_steps::text_done` meets its contract.
-use borrow.Author.Rules.{rules}
 use Rattle.byte_steps.proofs.text_done.Goals as goal
 
 pub returns-in-Plain : goal.returns-in-Plain

@@ -1,5 +1,4 @@
 -- `byte_steps::text_due` meets its contract.
-use borrow.Author.Rules.{rules}
 use Rattle.meaning.proofs.Rules.{tests}
 use Rattle.byte_steps.specs.Automaton.{text_due}
 use Rattle.byte_steps.proofs.text_due.Goals as goal

@@ -1,14 +1,10 @@
 -- The proof of the cycle of calls {count_at, count_items}. Levels left and items left fall as a pair: levels * 65,536 + items, at each call.
 -- count_items goes through its list in a loop, of which each turn leaves one item less; count_at adds what the list's node has for itself.
-use borrow.Author.Rules.{rules}
 use native.Mathlib.Omega.{arith}
-use Prim.Native.Nat.{ℕ, ◌<◌, ◌≤◌, ◌+◌, ◌*◌}
 use mathlib.Core.Path.{refl, sym, ◌∙◌}
-use lib.ListN.{length}
-use Rattle.steps.specs.Pass.{pass_shape}
 use Rattle.steps.proofs.Passing.{shape-none, shape-short, list-deep, list-cut}
 use Rattle.counts.specs.Pieces.{no_items, pieces}
-use Rattle.counts.proofs.Counting.{Tallied, text_few, shape-few, sum-few, tally-turn, tally-end, IsList, is-list, list-few, list-sum, list_counted}
+use Rattle.counts.proofs.Counting.{text_few, shape-few, sum-few, tally-turn, tally-end, is-list, list-few, list-sum, list_counted}
 use Rattle.counts.proofs.+count_at_count_items.Goals as goal
 
 -- In the answers q is the start; in count_at's f is the first byte read, m what it says, k tells the kind, b, e and x are the tests before the list,

@@ -4,7 +4,7 @@ use mathlib.Core.Path.{◌∙◌}
 use Prim.Native.Nat.{◌≤◌}
 use native.Mathlib.Omega.{arith}
 use lib.ListN.{length}
-use Rattle.counts.proofs.Counting.{Texts, texts-start, texts-turn, texts-end}
+use Rattle.counts.proofs.Counting.{texts-start, texts-turn, texts-end}
 use Rattle.counts.proofs.count_symbol.Goals as goal
 
 pub loop-due-init : goal.loop-due-init

@@ -1,10 +1,5 @@
 -- `counts::count_symbol` meets its contract. In the answers l is the list found, o the loop, n the name passed over.
-use borrow.Author.Rules.{rules}
-use mathlib.Core.Path.{◌∙◌}
-use Prim.Native.Nat.{◌≤◌}
-use native.Mathlib.Omega.{arith}
-use lib.ListN.{length}
-use Rattle.counts.proofs.Counting.{Texts, texts-start, texts-turn, texts-end}
+use Rattle.counts.proofs.Counting.{Texts}
 use Rattle.counts.proofs.count_symbol.Given as goal
 
 abbrev pub invariant-loop-due : goal.invariant-loop-due

@@ -1,5 +1,4 @@
 -- `counts::own_counts` meets its contract.
-use borrow.Author.Rules.{rules}
 use Rattle.counts.proofs.own_counts.Goals as goal
 
 pub returns-then-named_kind : goal.returns-then-named_kind

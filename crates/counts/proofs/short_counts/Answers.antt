@@ -1,5 +1,4 @@
 -- `counts::short_counts` meets its contract.
-use borrow.Author.Rules.{rules}
 use Rattle.counts.proofs.Shorts.{single-counts, array-counts, map-counts}
 use Rattle.counts.proofs.short_counts.Goals as goal
 

@@ -1,6 +1,5 @@
 -- `counts::text_from` meets its contract.
 use mathlib.Core.Path.{refl}
-use borrow.Author.Rules.{rules}
 use native.Mathlib.Omega.{arith}
 use Rattle.counts.specs.Pieces.{text_from}
 use Rattle.counts.proofs.text_from.Goals as goal

@@ -1,5 +1,4 @@
 -- `counts::text_size` meets its contract.
-use borrow.Author.Rules.{rules}
 use lib.ListN.{length-drop}
 use Rattle.counts.proofs.text_size.Goals as goal
 

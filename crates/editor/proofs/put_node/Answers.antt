@@ -1,5 +1,4 @@
 -- `editor::put_node` meets its contract.
-use borrow.Author.Rules.{rules}
 use mathlib.Core.Path.{refl}
 use Rattle.editor.specs.Section.{node_put}
 use Rattle.editor.proofs.put_node.Goals as goal

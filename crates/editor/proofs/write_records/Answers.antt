@@ -1,6 +1,5 @@
 -- `editor::write_records` meets its contract. Of the section's bytes before the records are put only their number matters.
 use Rattle.std.proofs.Common.{◌≡◌, ◌≤◌, ◌*◌, ◌∙◌, ℕ, List, length, take, ap, refl, arith}
-use Rattle.meaning.specs.Limits.{max_nodes}
 use Rattle.meaning.specs.TableReading.{node_size}
 use Rattle.meaning.specs.Answers.{Answer, buffer_after}
 use Rattle.buffers.specs.declared.Made.{Made}

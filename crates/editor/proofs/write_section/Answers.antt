@@ -1,6 +1,5 @@
 -- `editor::write_section` meets its contract: without a node it refuses; else the nodes' bytes are the front of the section, and the writer says
 -- the rest.
-use borrow.Author.Rules.{rules}
 use Prim.Native.Nat.{◌*◌, ◌-◌}
 use mathlib.Core.Path.{◌≡◌, refl}
 use native.Mathlib.Omega.{arith}

@@ -1,5 +1,4 @@
 -- `entries::put_item` meets its contract.
-use borrow.Author.Rules.{rules}
 use native.Mathlib.Omega.{arith}
 use Rattle.entries.proofs.Wrote.{wrote_none}
 use Rattle.entries.proofs.Entries.{text-length, text-wrote}

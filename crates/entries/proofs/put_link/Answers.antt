@@ -1,5 +1,4 @@
 -- `entries::put_link` meets its contract.
-use borrow.Author.Rules.{rules}
 use Rattle.entries.proofs.Entries.{pair-wrote}
 use Rattle.entries.proofs.put_link.Goals as goal
 

@@ -1,5 +1,4 @@
 -- `entries::put_name` meets its contract.
-use borrow.Author.Rules.{rules}
 use native.Mathlib.Omega.{arith}
 use mathlib.Core.Path.{sym, ◌∙◌}
 use Rattle.entries.proofs.Wrote.{wrote_none}

@@ -1,17 +1,7 @@
 -- The entries that a list's node has for its items are written in a loop, of which each turn leaves one item less; a section that has none of them is
 -- left as it is. In the answers q is the start, h whether it has some, o the loop, n the name passed over, p the shape counted, b the target found and u
 -- the item written.
-use borrow.Author.Rules.{rules}
-use native.Mathlib.Omega.{arith}
-use borrow.Author.Tests.{not-true}
-use Prim.Native.Nat.{◌≤◌}
-use mathlib.Core.Path.{refl, sym, ◌∙◌}
-use lib.ListN.{length}
-use Rattle.steps.proofs.Passing.{items-none}
-use Rattle.counts.specs.Pieces.{no_items}
-use Rattle.entries.proofs.Wrote.{wrote_none}
-use Rattle.entries.proofs.Entries.{no_own}
-use Rattle.entries.proofs.Owning.{Turn, few-inner, few-sums, item-fits, turn_on}
+use Rattle.entries.proofs.Owning.{Turn}
 use Rattle.entries.proofs.put_own.Given as goal
 
 abbrev pub invariant-loop-due : goal.invariant-loop-due

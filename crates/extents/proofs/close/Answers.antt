@@ -1,5 +1,4 @@
 -- `extents::close` meets its contract.
-use borrow.Author.Rules.{rules}
 use Rattle.extents.proofs.close.Goals as goal
 
 pub returns : goal.returns

@@ -1,5 +1,4 @@
 -- `extents::extent_of` meets its contract.
-use borrow.Author.Rules.{rules}
 use native.Mathlib.Omega.{arith}
 use borrow.Author.Tests.{le-ltb, lt-ltb}
 use Rattle.tables.specs.Places.{node_said}

@@ -1,12 +1,9 @@
 -- `extents::extents_of` meets its contract. The invariant: of each node before the next its extent is held.
-use borrow.Author.Rules.{rules}
 use native.Mathlib.Omega.{arith}
-use mathlib.Core.Path.{◌≡◌}
-use Prim.Native.Nat.{◌-◌, ◌≤◌}
-use lib.ListN.{length, length-set}
-use Rattle.meaning.specs.Limits.{max_nodes}
+use Prim.Native.Nat.{◌≤◌}
+use lib.ListN.{length-set}
 use Rattle.tables.specs.Places.{node_said}
-use Rattle.extents.specs.Extents.{over, too_deep, held_in, ExtentsTo}
+use Rattle.extents.specs.Extents.{over, too_deep, held_in}
 use Rattle.extents.proofs.Sound.{every-good}
 use Rattle.extents.proofs.Held.{node-small, extents-next}
 use Rattle.extents.proofs.extents_of.Goals as goal
@@ -30,11 +27,11 @@ loop-i-smaller c = omega arith
 
 pub loop-i-preserved : goal.loop-i-preserved
 loop-i-preserved c = let a = c.args in (
-      omega arith,
-      simp length-set c.loop-i.invariant.1,
-      simp length-set c.loop-i.invariant.2,
-      extents-next a.nodes.now a.rest.now a.links a.names c.loop-i.lengths c.loop-i.depths c.loop-i.i c.extent_of-extent.result (omega arith) (omega arith) (λ j h. every-good a.nodes.now a.rest.now a.links a.names a.count c.requires.5 j (omega arith)) c.node_at.ensures.is c.extent_of-extent.ensures c.loop-i.invariant.3,
-    )
+  omega arith,
+  simp length-set c.loop-i.invariant.1,
+  simp length-set c.loop-i.invariant.2,
+  extents-next a.nodes.now a.rest.now a.links a.names c.loop-i.lengths c.loop-i.depths c.loop-i.i c.extent_of-extent.result (omega arith) (omega arith) (λ j h. every-good a.nodes.now a.rest.now a.links a.names a.count c.requires.5 j (omega arith)) c.node_at.ensures.is c.extent_of-extent.ensures c.loop-i.invariant.3,
+)
 
 pub returns : goal.returns
 returns c = λ j h. c.loop-i.invariant.3 j (omega arith)

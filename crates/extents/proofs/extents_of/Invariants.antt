@@ -1,14 +1,9 @@
 -- `extents::extents_of` meets its contract. The invariant: of each node before the next its extent is held.
-use borrow.Author.Rules.{rules}
-use native.Mathlib.Omega.{arith}
 use mathlib.Core.Path.{◌≡◌}
 use Prim.Native.Nat.{◌-◌, ◌≤◌}
-use lib.ListN.{length, length-set}
+use lib.ListN.{length}
 use Rattle.meaning.specs.Limits.{max_nodes}
-use Rattle.tables.specs.Places.{node_said}
-use Rattle.extents.specs.Extents.{over, too_deep, held_in, ExtentsTo}
-use Rattle.extents.proofs.Sound.{every-good}
-use Rattle.extents.proofs.Held.{node-small, extents-next}
+use Rattle.extents.specs.Extents.{ExtentsTo}
 use Rattle.extents.proofs.extents_of.Given as goal
 
 abbrev pub invariant-loop-i : goal.invariant-loop-i

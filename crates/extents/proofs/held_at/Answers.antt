@@ -1,5 +1,4 @@
 -- `extents::held_at` meets its contract.
-use borrow.Author.Rules.{rules}
 use native.Mathlib.Omega.{arith}
 use Rattle.extents.proofs.held_at.Goals as goal
 

@@ -1,5 +1,4 @@
 -- `extents::prims_at` meets its contract.
-use borrow.Author.Rules.{rules}
 use Rattle.extents.proofs.prims_at.Goals as goal
 
 pub returns-then-prim_at : goal.returns-then-prim_at

@@ -1,11 +1,7 @@
 -- `extents::sum_run` meets its contract. The invariant: the links that are still due are good, and with them the sum is that of all.
-use borrow.Author.Rules.{rules}
 use native.Mathlib.Omega.{arith}
-use mathlib.Core.Bool.{true}
-use mathlib.Core.Path.{◌≡◌, refl, sym, ◌∙◌}
-use Prim.Native.Nat.{◌+◌}
-use Rattle.tables.specs.Places.{good_from}
-use Rattle.extents.specs.Extents.{held_in, none, sum_run}
+use mathlib.Core.Path.{refl, sym, ◌∙◌}
+use Rattle.extents.specs.Extents.{held_in}
 use Rattle.extents.proofs.Sound.{first_good, others-good}
 use Rattle.extents.proofs.Sums.{run-turn, run_end}
 use Rattle.extents.proofs.sum_run.Goals as goal
@@ -21,10 +17,10 @@ loop-due-smaller c = omega arith
 
 pub loop-due-preserved : goal.loop-due-preserved
 loop-due-preserved c = (
-      omega arith,
-      others-good c.args.rest.now c.args.way c.args.i c.args.names c.loop-due.x c.loop-due.due c.loop-due-test.true c.loop-due.invariant.1,
-      rw c.with_link-sum.ensures (c.loop-due.invariant.2 ∙ run-turn (held_in c.args.lengths.now c.args.depths.now) c.args.rest.now c.args.links c.args.way c.loop-due.x c.loop-due.due c.loop-due.sum c.loop-due-test.true c.link_at.ensures),
-    )
+  omega arith,
+  others-good c.args.rest.now c.args.way c.args.i c.args.names c.loop-due.x c.loop-due.due c.loop-due-test.true c.loop-due.invariant.1,
+  rw c.with_link-sum.ensures (c.loop-due.invariant.2 ∙ run-turn (held_in c.args.lengths.now c.args.depths.now) c.args.rest.now c.args.links c.args.way c.loop-due.x c.loop-due.due c.loop-due.sum c.loop-due-test.true c.link_at.ensures),
+)
 
 pub returns : goal.returns
 returns c = sym (c.loop-due.invariant.2 ∙ run_end (held_in c.args.lengths.now c.args.depths.now) c.args.rest.now c.args.links c.args.way c.loop-due.x c.loop-due.due c.loop-due.sum (omega arith))

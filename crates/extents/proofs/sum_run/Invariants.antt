@@ -1,13 +1,9 @@
 -- `extents::sum_run` meets its contract. The invariant: the links that are still due are good, and with them the sum is that of all.
-use borrow.Author.Rules.{rules}
-use native.Mathlib.Omega.{arith}
 use mathlib.Core.Bool.{true}
-use mathlib.Core.Path.{◌≡◌, refl, sym, ◌∙◌}
+use mathlib.Core.Path.{◌≡◌}
 use Prim.Native.Nat.{◌+◌}
 use Rattle.tables.specs.Places.{good_from}
 use Rattle.extents.specs.Extents.{held_in, none, sum_run}
-use Rattle.extents.proofs.Sound.{first_good, others-good}
-use Rattle.extents.proofs.Sums.{run-turn, run_end}
 use Rattle.extents.proofs.sum_run.Given as goal
 
 abbrev pub invariant-loop-due : goal.invariant-loop-due

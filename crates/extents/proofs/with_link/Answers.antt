@@ -1,5 +1,4 @@
 -- `extents::with_link` meets its contract.
-use borrow.Author.Rules.{rules}
 use mathlib.Core.Path.{◌≡◌, ap}
 use Rattle.meaning.specs.Table as Meant
 use Rattle.tables.specs.Places.{link_said, name_at}

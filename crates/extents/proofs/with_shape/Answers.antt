@@ -1,5 +1,4 @@
 -- `extents::with_shape` meets its contract.
-use borrow.Author.Rules.{rules}
 use Rattle.extents.proofs.with_shape.Goals as goal
 
 pub returns : goal.returns

@@ -1,5 +1,4 @@
 -- `extents::with_text` meets its contract.
-use borrow.Author.Rules.{rules}
 use Rattle.extents.proofs.with_text.Goals as goal
 
 pub returns : goal.returns

@@ -1,5 +1,4 @@
 -- `fills::fill` meets its contract: the template is looked at first, then the sheet.
-use borrow.Author.Rules.{rules}
 use mathlib.Core.Path.{refl, sym, ◌∙◌}
 use lib.ListN.{length}
 use Rattle.meaning.specs.Reading.{reading}

@@ -1,5 +1,4 @@
 -- `forms::form_of` meets its contract.
-use borrow.Author.Rules.{rules}
 use native.Mathlib.Omega.{arith}
 use Rattle.tables.specs.Places.{node_said}
 use Rattle.forms.proofs.ByKind.{form-primitive, form-array, form-map, form-record, form-function, form-symbol, form-variable}

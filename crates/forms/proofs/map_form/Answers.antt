@@ -1,5 +1,4 @@
 -- `forms::map_form` meets its contract.
-use borrow.Author.Rules.{rules}
 use borrow.Author.Tests.{lt-ltb, le-ltb}
 use Rattle.meaning.specs.Table.{array_kind}
 use Rattle.forms.specs.Forms.{map_form}

@@ -1,5 +1,4 @@
 -- `forms::put_name` meets its contract.
-use borrow.Author.Rules.{rules}
 use native.Mathlib.Nat.{add-zero}
 use mathlib.Core.Path.{sym}
 use Rattle.buffers.proofs.Written.{written_none}

@@ -1,7 +1,6 @@
 -- `items::field_item` meets its contract.
 use mathlib.Core.Path.{sym, ◌∙◌}
 use native.Mathlib.Omega.{arith}
-use borrow.Author.Rules.{rules}
 use Rattle.items.proofs.Whole.{field-whole}
 use Rattle.items.proofs.field_item.Goals as goal
 

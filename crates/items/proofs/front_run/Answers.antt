@@ -1,5 +1,4 @@
 -- `items::front_run` meets its contract.
-use borrow.Author.Rules.{rules}
 use Rattle.items.proofs.Whole.{run_none}
 use Rattle.items.proofs.front_run.Goals as goal
 

@@ -1,5 +1,4 @@
 -- `items::item_at` meets its contract.
-use borrow.Author.Rules.{rules}
 use Rattle.items.proofs.Whole.{bare-whole}
 use Rattle.items.proofs.item_at.Goals as goal
 

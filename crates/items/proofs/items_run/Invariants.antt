@@ -1,8 +1,5 @@
 -- `items::items_run` meets its contract.
-use native.Mathlib.Omega.{arith}
-use borrow.Author.Rules.{rules}
 use Rattle.items.specs.Fed.{RunFed}
-use Rattle.items.proofs.Whole.{run-fault, run_more}
 use Rattle.items.proofs.items_run.Given as goal
 
 abbrev pub invariant-loop-run : goal.invariant-loop-run

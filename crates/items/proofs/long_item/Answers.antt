@@ -1,7 +1,6 @@
 -- `items::long_item` meets its contract.
 use mathlib.Core.Path.{sym}
 use native.Mathlib.Omega.{arith}
-use borrow.Author.Rules.{rules}
 use Rattle.items.proofs.Whole.{shape-whole}
 use Rattle.items.proofs.long_item.Goals as goal
 

@@ -2,7 +2,6 @@
 use mathlib.Core.Path.{sym, ◌∙◌}
 use native.Mathlib.Omega.{arith}
 use lib.ListN.{get_or}
-use borrow.Author.Rules.{rules}
 use Rattle.meaning.specs.FirstByte.{class_of}
 use Rattle.byte_steps.proofs.Firsts.{short-small}
 use Rattle.items.proofs.Whole.{short-whole}

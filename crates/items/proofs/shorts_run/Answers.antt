@@ -1,14 +1,11 @@
 -- `items::shorts_run` meets its contract. The loop's invariant: an item was taken for each byte.
-use mathlib.Core.Path.{◌≡◌, sym, ◌∙◌}
-use Prim.Native.Nat.{◌+◌}
+use mathlib.Core.Path.{sym, ◌∙◌}
 use native.Mathlib.Omega.{arith}
 use lib.ListN.{get_or}
-use borrow.Author.Rules.{rules}
 use Rattle.meaning.specs.FirstByte.{class_of}
 use Rattle.byte_steps.specs.declared.modes.Items.TheVariants.{Bare}
 use Rattle.byte_steps.proofs.Firsts.{short-small}
 use Rattle.items.specs.declared.Item.TheVariants.{Whole}
-use Rattle.items.specs.Fed.{RunFed}
 use Rattle.items.proofs.Whole.{short-whole, bare-whole, run_none, run_more}
 use Rattle.items.proofs.shorts_run.Goals as goal
 

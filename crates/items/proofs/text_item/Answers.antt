@@ -1,7 +1,6 @@
 -- `items::text_item` meets its contract.
 use mathlib.Core.Path.{sym, ◌∙◌}
 use native.Mathlib.Omega.{arith}
-use borrow.Author.Rules.{rules}
 use Rattle.items.proofs.Whole.{text-whole}
 use Rattle.items.proofs.text_item.Goals as goal
 

@@ -1,5 +1,4 @@
 -- `joins::join` meets its contract: the first sheet is looked at first, then the second.
-use borrow.Author.Rules.{rules}
 use native.Mathlib.Omega.{arith}
 use mathlib.Core.Path.{refl, sym, ◌∙◌}
 use lib.ListN.{length}

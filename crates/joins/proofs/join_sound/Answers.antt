@@ -1,5 +1,4 @@
 -- `joins::join_sound` meets its contract.
-use borrow.Author.Rules.{rules}
 use native.Mathlib.Omega.{arith}
 use mathlib.Core.Path.{sym, ◌∙◌}
 use Rattle.joins.proofs.Answering.{measured-fits, join-many, join-deep, join-long, join-large, join-short, join_written}

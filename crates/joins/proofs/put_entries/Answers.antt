@@ -1,11 +1,7 @@
 -- `joins::put_entries` meets its contract. The invariant: the entries passed are written.
 use native.Mathlib.Omega.{arith}
-use Prim.Native.Nat.{◌+◌, ◌-◌}
-use mathlib.Core.Path.{◌≡◌}
-use lib.ListN.{length}
-use Rattle.sheets.specs.Index.{sheet_in}
 use Rattle.sheets.proofs.Places.{ready-within, ready-count, ready-room}
-use Rattle.joins.proofs.Putting.{Put, next-short, next-room, next_place, next_small, put-none, put-more, put_all}
+use Rattle.joins.proofs.Putting.{next-short, next-room, next_place, next_small, put-none, put-more, put_all}
 use Rattle.joins.proofs.put_entries.Goals as goal
 
 pub two_at-requires : goal.two_at-requires
@@ -28,9 +24,9 @@ overflow_add-to-2 c = omega (arith, c.requires.3)
 
 pub loop-i-init : goal.loop-i-init
 loop-i-init c = let p = c.requires in (
-      omega (arith, c.two_at.ensures.is, ready-count p.0, c.two_at-2.ensures.is, ready-count p.1),
-      put-none _ _ _ c.args.out.now (record { counted = p.2; few = p.3; fitting = p.4; room = p.5 }),
-    )
+  omega (arith, c.two_at.ensures.is, ready-count p.0, c.two_at-2.ensures.is, ready-count p.1),
+  put-none _ _ _ c.args.out.now (record { counted = p.2; few = p.3; fitting = p.4; room = p.5 }),
+)
 
 pub overflow_add-i : goal.overflow_add-i
 overflow_add-i c = let p = c.loop-i.invariant.1 in omega (arith, (ready-within c.requires.0).few, (ready-within c.requires.1).few, p.first, p.second)

@@ -1,11 +1,9 @@
 -- `joins::put_entries` meets its contract. The invariant: the entries passed are written.
-use native.Mathlib.Omega.{arith}
 use Prim.Native.Nat.{◌+◌, ◌-◌}
 use mathlib.Core.Path.{◌≡◌}
 use lib.ListN.{length}
 use Rattle.sheets.specs.Index.{sheet_in}
-use Rattle.sheets.proofs.Places.{ready-within, ready-count, ready-room}
-use Rattle.joins.proofs.Putting.{Put, next-short, next-room, next_place, next_small, put-none, put-more, put_all}
+use Rattle.joins.proofs.Putting.{Put}
 use Rattle.joins.proofs.put_entries.Given as goal
 
 abbrev pub invariant-loop-i : goal.invariant-loop-i

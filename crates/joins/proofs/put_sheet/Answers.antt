@@ -1,5 +1,4 @@
 -- `joins::put_sheet` meets its contract.
-use borrow.Author.Rules.{rules}
 use native.Mathlib.Omega.{arith}
 use Rattle.meaning.specs.Sheet.{join}
 use Rattle.sheets.specs.Index.{sheet_in}

@@ -4,8 +4,7 @@ use borrow.Author.Tests.{ltb-true}
 use native.Mathlib.Omega.{arith}
 use mathlib.Core.Path.{◌≡◌}
 use mathlib.Core.Bool.{true, false}
-use Prim.Native.Nat.{ℕ, ◌+◌, ◌-◌, ◌≤◌, ◌<◌}
-use Rattle.leaves.specs.Onward.{Onward}
+use Prim.Native.Nat.{ℕ}
 use Rattle.leaves.proofs.Way.{ascii-on, or-under, stay, follow, same_place}
 use Rattle.leaves.proofs.block_at.Goals as goal
 

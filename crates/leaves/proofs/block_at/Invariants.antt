@@ -1,12 +1,6 @@
 -- `leaves::block_at` meets its contract. The invariant: if the bits met are those of bytes under 128, the text goes on from its start to here.
-use borrow.Author.Rules.{rules}
-use borrow.Author.Tests.{ltb-true}
-use native.Mathlib.Omega.{arith}
-use mathlib.Core.Path.{◌≡◌}
-use mathlib.Core.Bool.{true, false}
-use Prim.Native.Nat.{ℕ, ◌+◌, ◌-◌, ◌≤◌, ◌<◌}
+use Prim.Native.Nat.{◌+◌, ◌-◌, ◌≤◌, ◌<◌}
 use Rattle.leaves.specs.Onward.{Onward}
-use Rattle.leaves.proofs.Way.{ascii-on, or-under, stay, follow, same_place}
 use Rattle.leaves.proofs.block_at.Given as goal
 
 abbrev pub invariant-loop-i : goal.invariant-loop-i

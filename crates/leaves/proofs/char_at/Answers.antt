@@ -1,5 +1,4 @@
 -- `leaves::char_at` meets its contract: at each `return` the tests that led there say which class the first byte is of.
-use borrow.Author.Rules.{rules}
 use Rattle.meaning.specs.Utf8.{char_size}
 use Rattle.meaning.proofs.Rules.{tests}
 use Rattle.leaves.proofs.Text.{char-first}

@@ -1,5 +1,4 @@
 -- `leaves::char_with` meets its contract: at each `return` the tests that led there say which of the steps is the answer.
-use borrow.Author.Rules.{rules}
 use Rattle.meaning.proofs.Rules.{tests}
 use Rattle.leaves.proofs.Text.{size_steps, size-steps}
 use Rattle.leaves.proofs.char_with.Goals as goal

@@ -1,7 +1,4 @@
 -- `leaves::leb128` meets its contract: at each `return` the tests that led there say which of the steps is the answer.
-use borrow.Author.Rules.{rules}
-use native.Mathlib.Omega.{arith}
-use Prim.Native.Nat.{◌+◌}
 use Rattle.meaning.proofs.Rules.{tests}
 use Rattle.leaves.proofs.Numbers.{steps, leb-steps}
 use Rattle.leaves.proofs.leb128.Goals as goal

@@ -1,8 +1,6 @@
 -- `leaves::past_ascii` meets its contract. The invariant: the text goes on from its start to here.
-use borrow.Author.Rules.{rules}
 use Prim.Native.Nat.{◌-◌}
 use Rattle.leaves.specs.Onward.{Onward}
-use Rattle.leaves.proofs.Way.{ascii-on, follow}
 use Rattle.leaves.proofs.past_ascii.Given as goal
 
 abbrev pub invariant-loop-at : goal.invariant-loop-at

@@ -2,7 +2,6 @@
 use native.Mathlib.Omega.{arith}
 use mathlib.Core.Path.{refl}
 use Prim.Native.Nat.{◌+◌}
-use borrow.Author.Rules.{rules}
 use Rattle.leaves.proofs.two_at.Goals as goal
 
 pub overflow_mul-result : goal.overflow_mul-result

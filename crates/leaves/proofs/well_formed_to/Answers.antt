@@ -1,8 +1,6 @@
 -- `leaves::well_formed_to` meets its contract. The invariant: the text goes on from its start to here.
 use borrow.Author.Rules.{rules}
 use mathlib.Core.Path.{sym, ◌∙◌}
-use Prim.Native.Nat.{◌-◌}
-use Rattle.leaves.specs.Onward.{Onward}
 use Rattle.leaves.proofs.Way.{ascii-on, char-on, stay, follow, stop-here, end-here}
 use Rattle.leaves.proofs.well_formed_to.Goals as goal
 

@@ -1,14 +1,10 @@
 -- `merges::joined_count` meets its contract. The invariant: the entries counted and those that are left are all of them.
-use borrow.Author.Rules.{rules}
-use native.Mathlib.Omega.{arith}
 use Prim.Native.Nat.{◌+◌, ◌-◌, ◌≤◌}
-use mathlib.Core.Path.{◌≡◌, ap}
+use mathlib.Core.Path.{◌≡◌}
 use lib.ListN.{length}
 use Rattle.meaning.specs.Sheet.{join}
 use Rattle.sheets.specs.Index.{sheet_in}
-use Rattle.sheets.proofs.Places.{ready-within, ready-count, ready-room}
 use Rattle.merges.specs.Merge.{joined_from}
-use Rattle.merges.proofs.Merging.{joined_end}
 use Rattle.merges.proofs.joined_count.Given as goal
 
 abbrev pub invariant-loop-i : goal.invariant-loop-i

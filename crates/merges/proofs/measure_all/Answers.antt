@@ -1,14 +1,9 @@
 -- `merges::measure_all` meets its contract. The invariant: all entries measure as those that are left do, after the bytes of those measured.
 use borrow.Author.Rules.{rules}
 use native.Mathlib.Omega.{arith}
-use Prim.Native.Nat.{◌+◌, ◌-◌, ◌*◌, ◌≤◌}
-use mathlib.Core.Path.{◌≡◌, refl, sym, ◌∙◌}
-use lib.ListN.{length}
-use Rattle.meaning.specs.Limits.{max_bytes}
-use Rattle.meaning.specs.Sheet.{join}
-use Rattle.sheets.specs.Index.{sheet_in}
+use mathlib.Core.Path.{refl, sym, ◌∙◌}
 use Rattle.sheets.proofs.Places.{ready-within, ready-count, ready-room}
-use Rattle.merges.specs.Merge.{joined_from, measured_all}
+use Rattle.merges.specs.Merge.{measured_all}
 use Rattle.merges.proofs.Merging.{joined_end, turn-deep, turn-long, turn-fits}
 use Rattle.merges.proofs.measure_all.Goals as goal
 

@@ -1,5 +1,4 @@
 -- `merges::span_at` meets its contract.
-use borrow.Author.Rules.{rules}
 use Rattle.sheets.specs.Index.{blank_in}
 use Rattle.merges.proofs.Filling.{part_length, part-short, span_filled}
 use Rattle.merges.proofs.span_at.Goals as goal

@@ -1,5 +1,4 @@
 -- `merges::turn_of` meets its contract.
-use borrow.Author.Rules.{rules}
 use native.Mathlib.Omega.{arith}
 use Rattle.sheets.proofs.Places.{ready-within, ready-count, ready-room, entry-room}
 use Rattle.merges.proofs.Merging.{first_next, both-next, second-next}

@@ -1,5 +1,4 @@
 -- `parts::child_from` meets its contract.
-use borrow.Author.Rules.{rules}
 use Rattle.parts.proofs.child_from.Goals as goal
 
 pub returns : goal.returns

@@ -1,5 +1,4 @@
 -- `parts::child_in` meets its contract.
-use borrow.Author.Rules.{rules}
 use borrow.Author.Tests.{lt-ltb}
 use Rattle.meaning.proofs.Rules.{tests}
 use Rattle.parts.specs.Found.{child_in}

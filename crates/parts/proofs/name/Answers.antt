@@ -1,5 +1,4 @@
 -- `parts::name` meets its contract: the reader's refusal is passed on, and of an accepted encoding the steps are what is said.
-use borrow.Author.Rules.{rules}
 use native.Mathlib.Omega.{arith}
 use mathlib.Core.Path.{sym, ◌∙◌}
 use Rattle.meaning.specs.Reading.{reading}

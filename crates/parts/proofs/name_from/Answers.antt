@@ -1,5 +1,4 @@
 -- `parts::name_from` meets its contract.
-use borrow.Author.Rules.{rules}
 use Rattle.parts.specs.Found.{name_from}
 use Rattle.parts.proofs.name_from.Goals as goal
 

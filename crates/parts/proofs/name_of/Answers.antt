@@ -1,5 +1,4 @@
 -- `parts::name_of` meets its contract.
-use borrow.Author.Rules.{rules}
 use Rattle.parts.specs.Found.{name_steps, name_with}
 use Rattle.parts.proofs.name_of.Goals as goal
 

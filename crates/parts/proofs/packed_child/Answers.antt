@@ -1,5 +1,4 @@
 -- `parts::packed_child` meets its contract.
-use borrow.Author.Rules.{rules}
 use Rattle.meaning.proofs.Rules.{tests}
 use Rattle.parts.specs.Found.{packed_child}
 use Rattle.parts.proofs.packed_child.Goals as goal

@@ -1,5 +1,4 @@
 -- `payloads::counted` meets its contract.
-use borrow.Author.Rules.{rules}
 use Rattle.payloads.specs.Payload.{counted_at, counted_by}
 use native.Mathlib.Omega.{arith}
 use Rattle.payloads.proofs.counted.Goals as goal

@@ -1,5 +1,4 @@
 -- `payloads::label_at` meets its contract.
-use borrow.Author.Rules.{rules}
 use Rattle.payloads.specs.Payload.{label_at}
 use Rattle.payloads.proofs.label_at.Goals as goal
 

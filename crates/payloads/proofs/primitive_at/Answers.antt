@@ -1,5 +1,4 @@
 -- `payloads::primitive_at` meets its contract.
-use borrow.Author.Rules.{rules}
 use Rattle.payloads.specs.Payload.{primitive_at}
 use Rattle.meaning.proofs.Rules.{tests}
 use Rattle.payloads.proofs.primitive_at.Goals as goal

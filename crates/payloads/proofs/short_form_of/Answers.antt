@@ -1,5 +1,4 @@
 -- `payloads::short_form_of` meets its contract.
-use borrow.Author.Rules.{rules}
 use Rattle.payloads.specs.Payload.{short_form_of}
 use Rattle.payloads.proofs.short_form_of.Goals as goal
 

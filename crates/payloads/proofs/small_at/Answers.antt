@@ -1,5 +1,4 @@
 -- `payloads::small_at` meets its contract.
-use borrow.Author.Rules.{rules}
 use Rattle.payloads.specs.Payload.{small_at}
 use Rattle.meaning.proofs.Rules.{tests}
 use Rattle.payloads.proofs.small_at.Goals as goal

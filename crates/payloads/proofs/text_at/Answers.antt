@@ -1,5 +1,4 @@
 -- `payloads::text_at` meets its contract.
-use borrow.Author.Rules.{rules}
 use native.Mathlib.Omega.{arith}
 use Prim.Native.Nat.{◌+◌}
 use Rattle.meaning.proofs.Rules.{tests}

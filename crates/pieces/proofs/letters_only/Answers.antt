@@ -1,6 +1,5 @@
 -- `pieces::letters_only` meets its contract.
 use native.Mathlib.Omega.{arith}
-use borrow.Author.Rules.{rules}
 use Rattle.leaves.proofs.Way.{end-here}
 use Rattle.pieces.proofs.letters_only.Goals as goal
 

@@ -1,5 +1,4 @@
 -- `pieces::start` meets its contract.
-use borrow.Author.Rules.{rules}
 use Rattle.byte_steps.specs.Automaton.{start, fed}
 use Rattle.states.specs.Kept.{kinds_of, laid_out, word_of}
 use Rattle.pieces.proofs.start.Goals as goal

@@ -2,9 +2,9 @@
 -- its list in a loop, of which each turn leaves one item less.
 use borrow.Author.Rules.{rules}
 use native.Mathlib.Omega.{arith}
-use Prim.Native.Nat.{ℕ, ◌<◌, ◌≤◌, ◌+◌, ◌*◌}
+use Prim.Native.Nat.{◌+◌}
 use mathlib.Core.Path.{◌≡◌, sym, ap, ◌∙◌}
-use Rattle.reader.specs.Walk.{walk_items, walk_shape, depths, told}
+use Rattle.reader.specs.Walk.{walk_items, told}
 use Rattle.reader.proofs.Inside.{walked-wider}
 use Rattle.reader.proofs.Steps.{shape-more, items-bad, items_refused, items-plain, items-shaped}
 use Rattle.reader.proofs.+items_shape.Goals as goal
@@ -24,36 +24,36 @@ items-overflow_add-at t c = let h = rw c.in-One.is at c.head_at.ensures in omega
 
 pub items-loop-due-preserved-in-One : goal.items-loop-due-preserved-in-One
 items-loop-due-preserved-in-One t c = let h = rw c.in-One.is at c.head_at.ensures in (
-      omega arith,
-      omega arith,
-      c.loop-due.invariant.2
-          ∙ items-shaped _ _ _ _ _ _ _ c.loop-due.due (omega arith) (sym c.label_at.ensures ∙ c.in-Whole.is) (sym c.shaped_kind.ensures ∙ c.if-shaped_kind.true) h.0
-          ∙ rw (← c.larger-deep.ensures),
-    )
+  omega arith,
+  omega arith,
+  c.loop-due.invariant.2
+      ∙ items-shaped _ _ _ _ _ _ _ c.loop-due.due (omega arith) (sym c.label_at.ensures ∙ c.in-Whole.is) (sym c.shaped_kind.ensures ∙ c.if-shaped_kind.true) h.0
+      ∙ rw (← c.larger-deep.ensures),
+)
 
 pub items-shape-requires : goal.items-shape-requires
 items-shape-requires t c = let h = rw c.in-More.is at c.head_at.ensures in search rules
 
 pub items-returns-in-Refused-clause-is : goal.items-returns-in-Refused-clause-is
 items-returns-in-Refused-clause-is t c = sym (c.loop-due.invariant.2
-          ∙ items_refused _ _ _ _ _ _ _ c.loop-due.due (omega arith) (sym c.label_at.ensures ∙ c.in-Whole.is) (sym c.shaped_kind.ensures ∙ c.if-shaped_kind.true) (sym c.shape.ensures.is ∙ ap told c.in-Refused.is))
+    ∙ items_refused _ _ _ _ _ _ _ c.loop-due.due (omega arith) (sym c.label_at.ensures ∙ c.in-Whole.is) (sym c.shaped_kind.ensures ∙ c.if-shaped_kind.true) (sym c.shape.ensures.is ∙ ap told c.in-Refused.is))
 
 pub items-loop-due-preserved-in-Shape : goal.items-loop-due-preserved-in-Shape
 items-loop-due-preserved-in-Shape t c = let h = rw c.in-Shape.is at c.shape.ensures.inside in (
-      omega arith,
-      omega arith,
-      c.loop-due.invariant.2
-          ∙ items-shaped _ _ _ _ _ _ _ c.loop-due.due (omega arith) (sym c.label_at.ensures ∙ c.in-Whole.is) (sym c.shaped_kind.ensures ∙ c.if-shaped_kind.true) (sym c.shape.ensures.is ∙ ap told c.in-Shape.is)
-          ∙ rw (← c.larger-deep-in-Shape.ensures),
-    )
+  omega arith,
+  omega arith,
+  c.loop-due.invariant.2
+      ∙ items-shaped _ _ _ _ _ _ _ c.loop-due.due (omega arith) (sym c.label_at.ensures ∙ c.in-Whole.is) (sym c.shaped_kind.ensures ∙ c.if-shaped_kind.true) (sym c.shape.ensures.is ∙ ap told c.in-Shape.is)
+      ∙ rw (← c.larger-deep-in-Shape.ensures),
+)
 
 pub items-loop-due-preserved : goal.items-loop-due-preserved
 items-loop-due-preserved t c = (
-      omega arith,
-      omega arith,
-      c.loop-due.invariant.2
-          ∙ items-plain _ _ _ _ _ _ _ c.loop-due.due (omega arith) (sym c.label_at.ensures ∙ c.in-Whole.is) (sym c.shaped_kind.ensures ∙ c.if-shaped_kind.false),
-    )
+  omega arith,
+  omega arith,
+  c.loop-due.invariant.2
+      ∙ items-plain _ _ _ _ _ _ _ c.loop-due.due (omega arith) (sym c.label_at.ensures ∙ c.in-Whole.is) (sym c.shaped_kind.ensures ∙ c.if-shaped_kind.false),
+)
 
 pub items-returns-clause-is : goal.items-returns-clause-is
 unfolding walk_items

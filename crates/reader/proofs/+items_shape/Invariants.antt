@@ -1,12 +1,8 @@
 -- The proof of the cycle of calls {items, shape}. Levels left and items left fall as a pair: levels * 65,536 + items, at each call. items reads
 -- its list in a loop, of which each turn leaves one item less.
-use borrow.Author.Rules.{rules}
-use native.Mathlib.Omega.{arith}
-use Prim.Native.Nat.{ℕ, ◌<◌, ◌≤◌, ◌+◌, ◌*◌}
-use mathlib.Core.Path.{◌≡◌, sym, ap, ◌∙◌}
-use Rattle.reader.specs.Walk.{walk_items, walk_shape, depths, told}
-use Rattle.reader.proofs.Inside.{walked-wider}
-use Rattle.reader.proofs.Steps.{shape-more, items-bad, items_refused, items-plain, items-shaped}
+use Prim.Native.Nat.{◌≤◌, ◌+◌, ◌*◌}
+use mathlib.Core.Path.{◌≡◌}
+use Rattle.reader.specs.Walk.{walk_items, walk_shape, depths}
 use Rattle.reader.proofs.+items_shape.Given as goal
 
 abbrev pub decreases-items : goal.decreases-items

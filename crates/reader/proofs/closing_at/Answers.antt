@@ -1,5 +1,4 @@
 -- `reader::closing_at` meets its contract.
-use borrow.Author.Rules.{rules}
 use Rattle.reader.specs.Walk.{closing}
 use Rattle.meaning.proofs.Rules.{tests}
 use Rattle.reader.proofs.Steps.{made-depth}

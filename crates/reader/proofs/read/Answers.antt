@@ -1,5 +1,4 @@
 -- `reader::read` meets its contract: the walk's answer is what reading means.
-use borrow.Author.Rules.{rules}
 use native.Mathlib.Omega.{arith}
 use Rattle.meaning.proofs.Rules.{tests}
 use Rattle.reader.specs.Walk.{walk_all}

@@ -1,13 +1,7 @@
 -- `reader::run_of` meets its contract. The loop's invariant: of a list whose items are shapes alone, the items that are still due, read on from
 -- here, end as the whole list does.
-use borrow.Author.Rules.{rules}
 use native.Mathlib.Omega.{arith}
-use Prim.Native.Nat.{◌≤◌}
-use mathlib.Core.Path.{◌≡◌, refl, sym, ◌∙◌}
-use mathlib.Core.Bool.{true, false}
-use Rattle.payloads.specs.declared.first.Kind.{Kind}
-use Rattle.payloads.specs.Payload.{named, shaped}
-use Rattle.reader.specs.Walk.{walk_items, walk_shape, depths}
+use mathlib.Core.Path.{refl, sym, ◌∙◌}
 use Rattle.reader.proofs.Steps.{items-bare}
 use Rattle.reader.proofs.run_of.Goals as goal
 
@@ -22,10 +16,10 @@ overflow_add-run c = let h = rw c.in-One.is at c.head_at.ensures in omega arith
 
 pub loop-run-preserved : goal.loop-run-preserved
 loop-run-preserved c = let h = rw c.in-One.is at c.head_at.ensures in (
-      omega arith,
-      omega arith,
-      λ kind n k. c.loop-run.invariant.2 kind n k ∙ items-bare _ _ _ _ _ _ _ _ c.loop-run-test.true n k h.0 ∙ rw (← c.larger.ensures),
-    )
+  omega arith,
+  omega arith,
+  λ kind n k. c.loop-run.invariant.2 kind n k ∙ items-bare _ _ _ _ _ _ _ _ c.loop-run-test.true n k h.0 ∙ rw (← c.larger.ensures),
+)
 
 pub returns-in_default-clause-is : goal.returns-in_default-clause-is
 returns-in_default-clause-is c = c.loop-run.invariant.2 _ (sym c.named_kind.ensures ∙ c.if-named_kind.false) (sym c.shaped_kind.ensures ∙ c.if-shaped_kind.true)

@@ -1,14 +1,11 @@
 -- `reader::run_of` meets its contract. The loop's invariant: of a list whose items are shapes alone, the items that are still due, read on from
 -- here, end as the whole list does.
-use borrow.Author.Rules.{rules}
-use native.Mathlib.Omega.{arith}
 use Prim.Native.Nat.{◌≤◌}
-use mathlib.Core.Path.{◌≡◌, refl, sym, ◌∙◌}
+use mathlib.Core.Path.{◌≡◌}
 use mathlib.Core.Bool.{true, false}
 use Rattle.payloads.specs.declared.first.Kind.{Kind}
 use Rattle.payloads.specs.Payload.{named, shaped}
 use Rattle.reader.specs.Walk.{walk_items, walk_shape, depths}
-use Rattle.reader.proofs.Steps.{items-bare}
 use Rattle.reader.proofs.run_of.Given as goal
 
 abbrev pub invariant-loop-run : goal.invariant-loop-run

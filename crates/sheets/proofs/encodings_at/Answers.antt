@@ -1,14 +1,11 @@
 -- `sheets::encodings_at` meets its contract. The invariant: the encodings that are still due have room from here on, and, judged from here on,
 -- end as all of them do; those before are in the index.
-use borrow.Author.Rules.{rules}
 use native.Mathlib.Omega.{arith}
 use native.Mathlib.Nat.{sub-zero}
-use Prim.Native.Nat.{◌+◌, ◌-◌, ◌≤◌}
-use mathlib.Core.Path.{◌≡◌, refl, sym, ◌∙◌}
-use lib.ListN.{length, length-set}
-use Rattle.sheets.specs.declared.Checked.TheVariants.{Sound}
-use Rattle.sheets.specs.Steps.{sum_from, encodings_from}
-use Rattle.sheets.specs.Index.{IndexTo}
+use Prim.Native.Nat.{◌+◌, ◌-◌}
+use mathlib.Core.Path.{refl, sym, ◌∙◌}
+use lib.ListN.{length-set}
+use Rattle.sheets.specs.Steps.{sum_from}
 use Rattle.sheets.proofs.Turns.{sum-turn, encodings-refused, encodings-accepted, encodings-end}
 use Rattle.sheets.proofs.Indexing.{sum-last, index-none, index-turn, part-deep, deep-told}
 use Rattle.sheets.proofs.encodings_at.Goals as goal
@@ -37,13 +34,13 @@ loop-i-smaller c = omega arith
 
 pub loop-i-preserved : goal.loop-i-preserved
 loop-i-preserved c = let a = c.args in let s = a.sheet.now in let i = c.loop-i.i in let z = c.two_at-size.ensures.is in (
-      omega arith,
-      omega (arith, sum-turn s a.count i (omega arith)),
-      c.loop-i.invariant.2 ∙ encodings-accepted s a.count i (omega arith) _ c.loop-i.at z c.read.ensures c.in-Accepted.is,
-      omega (arith, sum-last s i, z),
-      simp length-set (omega arith),
-      index-turn s c.loop-i.index a.from i c.loop-i.at _ (omega arith) (omega arith) c.loop-i.invariant.5 c.loop-i.invariant.3 (deep-told s c.loop-i.at _ _ _ _ z c.read.ensures c.in-Accepted.is),
-    )
+  omega arith,
+  omega (arith, sum-turn s a.count i (omega arith)),
+  c.loop-i.invariant.2 ∙ encodings-accepted s a.count i (omega arith) _ c.loop-i.at z c.read.ensures c.in-Accepted.is,
+  omega (arith, sum-last s i, z),
+  simp length-set (omega arith),
+  index-turn s c.loop-i.index a.from i c.loop-i.at _ (omega arith) (omega arith) c.loop-i.invariant.5 c.loop-i.invariant.3 (deep-told s c.loop-i.at _ _ _ _ z c.read.ensures c.in-Accepted.is),
+)
 
 pub returns-clause-is : goal.returns-clause-is
 returns-clause-is c = let a = c.args in sym (c.loop-i.invariant.2 ∙ encodings-end a.sheet.now a.count c.loop-i.i (omega arith) _ _)

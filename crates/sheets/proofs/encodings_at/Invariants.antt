@@ -1,16 +1,11 @@
 -- `sheets::encodings_at` meets its contract. The invariant: the encodings that are still due have room from here on, and, judged from here on,
 -- end as all of them do; those before are in the index.
-use borrow.Author.Rules.{rules}
-use native.Mathlib.Omega.{arith}
-use native.Mathlib.Nat.{sub-zero}
 use Prim.Native.Nat.{◌+◌, ◌-◌, ◌≤◌}
-use mathlib.Core.Path.{◌≡◌, refl, sym, ◌∙◌}
-use lib.ListN.{length, length-set}
+use mathlib.Core.Path.{◌≡◌}
+use lib.ListN.{length}
 use Rattle.sheets.specs.declared.Checked.TheVariants.{Sound}
 use Rattle.sheets.specs.Steps.{sum_from, encodings_from}
 use Rattle.sheets.specs.Index.{IndexTo}
-use Rattle.sheets.proofs.Turns.{sum-turn, encodings-refused, encodings-accepted, encodings-end}
-use Rattle.sheets.proofs.Indexing.{sum-last, index-none, index-turn, part-deep, deep-told}
 use Rattle.sheets.proofs.encodings_at.Given as goal
 
 abbrev pub invariant-loop-i : goal.invariant-loop-i

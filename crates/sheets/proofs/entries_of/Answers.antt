@@ -1,13 +1,10 @@
 -- `sheets::entries_of` meets its contract. The invariant: the entries that are still due, read on from here, end as all of them do.
-use borrow.Author.Rules.{rules}
 use borrow.Author.Tests.{le-ltb}
 use native.Mathlib.Omega.{arith}
 use native.Mathlib.Nat.{sub-zero}
-use Prim.Native.Nat.{◌*◌, ◌-◌, ◌≤◌}
-use mathlib.Core.Path.{◌≡◌, sym, ◌∙◌}
+use mathlib.Core.Path.{sym, ◌∙◌}
 use Rattle.meaning.specs.Limits.{max_bytes}
 use Rattle.meaning.proofs.Rules.{tests}
-use Rattle.sheets.specs.Steps.{entries_from}
 use Rattle.sheets.proofs.Turns.{entries-turn, entries-end}
 use Rattle.sheets.proofs.entries_of.Goals as goal
 
@@ -28,10 +25,10 @@ loop-i-smaller c = omega arith
 
 pub loop-i-preserved : goal.loop-i-preserved
 loop-i-preserved c = let a = c.args in (
-      omega arith,
-      omega arith,
-      rw (c.loop-i.invariant.2, entries-turn a.sheet.now a.count c.loop-i.i (omega arith), ← c.two_at-blank.ensures.is, ← c.two_at-size.ensures.is, le-ltb max_bytes c.two_at-size.result (omega arith)) (search tests),
-    )
+  omega arith,
+  omega arith,
+  rw (c.loop-i.invariant.2, entries-turn a.sheet.now a.count c.loop-i.i (omega arith), ← c.two_at-blank.ensures.is, ← c.two_at-size.ensures.is, le-ltb max_bytes c.two_at-size.result (omega arith)) (search tests),
+)
 
 pub returns : goal.returns
 returns c = let a = c.args in sym (c.loop-i.invariant.2 ∙ entries-end a.sheet.now a.count c.loop-i.i (omega arith) _ _)

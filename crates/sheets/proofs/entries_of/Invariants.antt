@@ -1,14 +1,8 @@
 -- `sheets::entries_of` meets its contract. The invariant: the entries that are still due, read on from here, end as all of them do.
-use borrow.Author.Rules.{rules}
-use borrow.Author.Tests.{le-ltb}
-use native.Mathlib.Omega.{arith}
-use native.Mathlib.Nat.{sub-zero}
 use Prim.Native.Nat.{◌*◌, ◌-◌, ◌≤◌}
-use mathlib.Core.Path.{◌≡◌, sym, ◌∙◌}
+use mathlib.Core.Path.{◌≡◌}
 use Rattle.meaning.specs.Limits.{max_bytes}
-use Rattle.meaning.proofs.Rules.{tests}
 use Rattle.sheets.specs.Steps.{entries_from}
-use Rattle.sheets.proofs.Turns.{entries-turn, entries-end}
 use Rattle.sheets.proofs.entries_of.Given as goal
 
 abbrev pub invariant-loop-i : goal.invariant-loop-i

@@ -1,9 +1,9 @@
 -- `sheets::entry_of` meets its contract. The invariant: every entry before low has a smaller number, every one from high on a larger.
 use native.Mathlib.Omega.{arith}
-use Prim.Native.Nat.{◌+◌, ◌-◌, ◌/◌}
+use Prim.Native.Nat.{◌+◌, ◌/◌}
 use mathlib.Core.Path.{sym, ◌∙◌}
 use Rattle.sheets.proofs.Places.{ready-within, ready-count, ready-room, entry-room, ready-blank}
-use Rattle.sheets.proofs.Search.{Turn, search-start, search-up, search-down, search-end}
+use Rattle.sheets.proofs.Search.{search-start, search-up, search-down, search-end}
 use Rattle.sheets.proofs.entry_of.Goals as goal
 
 pub two_at-high-requires : goal.two_at-high-requires

@@ -1,5 +1,4 @@
 -- `sheets::second_at` meets its contract.
-use borrow.Author.Rules.{rules}
 use borrow.Author.Tests.{le-ltb}
 use native.Mathlib.Omega.{arith}
 use Rattle.meaning.specs.Limits.{max_encodings}

@@ -3,14 +3,14 @@
 use borrow.Author.Rules.{rules}
 use native.Mathlib.Omega.{arith}
 use mathlib.Core.Path.{◌≡◌, refl, sym, ap, ◌∙◌}
-use Prim.Native.Nat.{ℕ, ◌<◌, ◌≤◌, ◌+◌, ◌*◌}
+use Prim.Native.Nat.{◌≤◌, ◌+◌}
 use lib.ListN.{length}
 use Rattle.sheets.specs.Index.{blank_in}
 use Rattle.sizes.specs.Sizes.{sizes}
 use Rattle.steps.specs.Pass.{Came}
 use Rattle.sizes.specs.declared.Size.{Size}
 use Rattle.steps.proofs.Passing.{shape-none, shape-short, list-deep, list-cut, items-none}
-use Rattle.sizes.proofs.Sums.{Going, room, turn, nothing-inside, short-inside, list-is}
+use Rattle.sizes.proofs.Sums.{room, turn, nothing-inside, short-inside, list-is}
 use Rattle.sizes.proofs.+items_size_shape_size.Goals as goal
 
 pub items_size-loop-due-init : goal.items_size-loop-due-init
@@ -78,7 +78,7 @@ items_size-returns-clause-inside t c = let a = c.args in let g = c.loop-due.inva
 -- a list with no level left for it
 pub shape_size-returns-then-left-eq0-clause-is : goal.shape_size-returns-then-left-eq0-clause-is
 shape_size-returns-then-left-eq0-clause-is t c = let a = c.args in c.nothing.ensures
-          ∙ sym (list-deep (sizes (blank_in a.sheet.now)) a.left a.s.now a.at c.requires.4 (sym c.shaped_kind.ensures ∙ c.if-shaped_kind.true) c.if-left-eq0.true)
+    ∙ sym (list-deep (sizes (blank_in a.sheet.now)) a.left a.s.now a.at c.requires.4 (sym c.shaped_kind.ensures ∙ c.if-shaped_kind.true) c.if-left-eq0.true)
 
 -- a list with no level left for it
 pub shape_size-returns-then-left-eq0-clause-inside : goal.shape_size-returns-then-left-eq0-clause-inside
@@ -87,7 +87,7 @@ shape_size-returns-then-left-eq0-clause-inside t c = let a = c.args in nothing-i
 -- a list whose head is cut off
 pub shape_size-returns-then-s-at-lt-HEAD_SIZE-clause-is : goal.shape_size-returns-then-s-at-lt-HEAD_SIZE-clause-is
 shape_size-returns-then-s-at-lt-HEAD_SIZE-clause-is t c = let a = c.args in c.nothing-then-s-at-lt-HEAD_SIZE.ensures
-          ∙ sym (list-cut (sizes (blank_in a.sheet.now)) a.left a.s.now a.at c.requires.4 (sym c.shaped_kind.ensures ∙ c.if-shaped_kind.true) (search rules) c.if-s-at-lt-HEAD_SIZE.true)
+    ∙ sym (list-cut (sizes (blank_in a.sheet.now)) a.left a.s.now a.at c.requires.4 (sym c.shaped_kind.ensures ∙ c.if-shaped_kind.true) (search rules) c.if-s-at-lt-HEAD_SIZE.true)
 
 -- a list whose head is cut off
 pub shape_size-returns-then-s-at-lt-HEAD_SIZE-clause-inside : goal.shape_size-returns-then-s-at-lt-HEAD_SIZE-clause-inside

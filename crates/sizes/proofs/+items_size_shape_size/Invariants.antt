@@ -1,16 +1,8 @@
 -- The proof of the cycle of calls {items_size, shape_size}. Levels left and items left fall as a pair: levels * 65,536 + items, at each call.
 -- items_size goes through its list in a loop, of which each turn leaves one item less.
-use borrow.Author.Rules.{rules}
-use native.Mathlib.Omega.{arith}
-use mathlib.Core.Path.{◌≡◌, refl, sym, ap, ◌∙◌}
-use Prim.Native.Nat.{ℕ, ◌<◌, ◌≤◌, ◌+◌, ◌*◌}
-use lib.ListN.{length}
+use Prim.Native.Nat.{◌+◌, ◌*◌}
 use Rattle.sheets.specs.Index.{blank_in}
-use Rattle.sizes.specs.Sizes.{sizes}
-use Rattle.steps.specs.Pass.{Came}
-use Rattle.sizes.specs.declared.Size.{Size}
-use Rattle.steps.proofs.Passing.{shape-none, shape-short, list-deep, list-cut, items-none}
-use Rattle.sizes.proofs.Sums.{Going, room, turn, nothing-inside, short-inside, list-is}
+use Rattle.sizes.proofs.Sums.{Going}
 use Rattle.sizes.proofs.+items_size_shape_size.Given as goal
 
 abbrev pub decreases-items_size : goal.decreases-items_size

@@ -1,6 +1,5 @@
 -- `sizes::blank_size` meets its contract.
 use mathlib.Core.Path.{refl}
-use borrow.Author.Rules.{rules}
 use native.Mathlib.Omega.{arith}
 use Rattle.sizes.proofs.Blanks.{found-size, found_inside, blank-inside}
 use Rattle.sizes.proofs.blank_size.Goals as goal

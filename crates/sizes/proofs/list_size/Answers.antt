@@ -1,5 +1,4 @@
 -- `sizes::list_size` meets its contract.
-use borrow.Author.Rules.{rules}
 use Rattle.sizes.proofs.list_size.Goals as goal
 
 pub returns-then-both : goal.returns-then-both

@@ -1,5 +1,4 @@
 -- `sizes::prim_in` meets its contract.
-use borrow.Author.Rules.{rules}
 use Rattle.meaning.proofs.Rules.{tests}
 use Rattle.sizes.specs.Sizes.{prim_in}
 use Rattle.sizes.proofs.prim_in.Goals as goal

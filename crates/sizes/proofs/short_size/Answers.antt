@@ -1,5 +1,4 @@
 -- `sizes::short_size` meets its contract.
-use borrow.Author.Rules.{rules}
 use Rattle.meaning.proofs.Rules.{tests}
 use Rattle.sizes.proofs.short_size.Goals as goal
 

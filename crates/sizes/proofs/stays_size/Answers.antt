@@ -1,5 +1,4 @@
 -- `sizes::stays_size` meets its contract.
-use borrow.Author.Rules.{rules}
 use Rattle.meaning.specs.Shape.{depth}
 use Rattle.meaning.specs.Encode.{as_prim, blank_bytes, encode}
 use Rattle.meaning.proofs.Rules.{tests}

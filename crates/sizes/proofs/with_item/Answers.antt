@@ -1,5 +1,4 @@
 -- `sizes::with_item` meets its contract.
-use borrow.Author.Rules.{rules}
 use Rattle.sizes.proofs.with_item.Goals as goal
 
 pub returns : goal.returns

@@ -1,6 +1,5 @@
 -- `states::kinds_with` meets its contract.
 use native.Mathlib.Omega.{arith}
-use borrow.Author.Rules.{rules}
 use Rattle.states.proofs.Keeping.{items-few}
 use Rattle.states.proofs.kinds_with.Goals as goal
 

@@ -1,5 +1,4 @@
 -- `states::level_of` meets its contract.
-use borrow.Author.Rules.{rules}
 use Rattle.states.proofs.level_of.Goals as goal
 
 pub returns : goal.returns

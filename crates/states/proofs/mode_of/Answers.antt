@@ -1,5 +1,4 @@
 -- `states::mode_of` meets its contract.
-use borrow.Author.Rules.{rules}
 use Rattle.meaning.proofs.Rules.{tests}
 use Rattle.states.specs.Kept.{mode_in}
 use Rattle.states.proofs.mode_of.Goals as goal

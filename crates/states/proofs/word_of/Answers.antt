@@ -1,5 +1,4 @@
 -- `states::word_of` meets its contract.
-use borrow.Author.Rules.{rules}
 use Rattle.states.specs.Kept.{word_of}
 use Rattle.states.proofs.word_of.Goals as goal
 

@@ -1,6 +1,5 @@
 -- `steps::counted_list` meets its contract.
 use mathlib.Core.Path.{refl}
-use borrow.Author.Rules.{rules}
 use native.Mathlib.Omega.{arith}
 use Rattle.steps.proofs.counted_list.Goals as goal
 

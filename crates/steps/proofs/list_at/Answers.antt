@@ -1,6 +1,5 @@
 -- `steps::list_at` meets its contract.
 use mathlib.Core.Path.{refl}
-use borrow.Author.Rules.{rules}
 use Rattle.steps.specs.Steps.{list_at}
 use Rattle.steps.proofs.list_at.Goals as goal
 

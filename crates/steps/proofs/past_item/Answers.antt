@@ -1,5 +1,4 @@
 -- `steps::past_item` meets its contract.
-use borrow.Author.Rules.{rules}
 use Rattle.steps.specs.Steps.{past_item}
 use Rattle.steps.proofs.past_item.Goals as goal
 

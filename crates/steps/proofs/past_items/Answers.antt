@@ -1,8 +1,6 @@
 -- `steps::past_items` meets its contract. The invariant: the items passed and those that are due are all of them.
 use borrow.Author.Rules.{rules}
-use mathlib.Core.Path.{◌≡◌, refl}
-use Prim.Native.Nat.{◌≤◌}
-use Rattle.steps.specs.Steps.{past_items}
+use mathlib.Core.Path.{refl}
 use Rattle.steps.proofs.Turns.{items-one, items-none}
 use Rattle.steps.proofs.past_items.Goals as goal
 

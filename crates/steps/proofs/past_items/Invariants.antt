@@ -1,9 +1,7 @@
 -- `steps::past_items` meets its contract. The invariant: the items passed and those that are due are all of them.
-use borrow.Author.Rules.{rules}
-use mathlib.Core.Path.{◌≡◌, refl}
+use mathlib.Core.Path.{◌≡◌}
 use Prim.Native.Nat.{◌≤◌}
 use Rattle.steps.specs.Steps.{past_items}
-use Rattle.steps.proofs.Turns.{items-one, items-none}
 use Rattle.steps.proofs.past_items.Given as goal
 
 abbrev pub invariant-loop-due : goal.invariant-loop-due

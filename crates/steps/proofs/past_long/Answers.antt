@@ -1,5 +1,4 @@
 -- `steps::past_long` meets its contract.
-use borrow.Author.Rules.{rules}
 use Rattle.meaning.proofs.Rules.{tests}
 use Rattle.steps.specs.Steps.{past_long}
 use Rattle.steps.proofs.past_long.Goals as goal

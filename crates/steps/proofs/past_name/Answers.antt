@@ -1,6 +1,5 @@
 -- `steps::past_name` meets its contract.
 use mathlib.Core.Path.{refl}
-use borrow.Author.Rules.{rules}
 use Rattle.steps.specs.Steps.{past_name}
 use Rattle.steps.proofs.past_name.Goals as goal
 

@@ -1,6 +1,5 @@
 -- `steps::past_text` meets its contract.
 use mathlib.Core.Path.{refl}
-use borrow.Author.Rules.{rules}
 use native.Mathlib.Omega.{arith}
 use Rattle.meaning.proofs.Rules.{tests}
 use Rattle.steps.specs.Steps.{past_text}

@@ -1,12 +1,7 @@
 -- `tables::bad_name` meets its contract. The invariant: the first broken name is the first of those that are still due.
-use borrow.Author.Rules.{rules}
-use native.Mathlib.Omega.{arith}
-use native.Mathlib.Nat.{sub-zero}
 use Prim.Native.Nat.{◌-◌, ◌≤◌}
-use mathlib.Core.Path.{◌≡◌, sym, ◌∙◌}
-use borrow.Author.Tests.{eq-eqb, ne_eqb}
+use mathlib.Core.Path.{◌≡◌}
 use Rattle.tables.specs.Places.{first_bad_name}
-use Rattle.tables.proofs.Turns.{name-good, name-bad, name-end, name-wide, name-text}
 use Rattle.tables.proofs.bad_name.Given as goal
 
 abbrev pub invariant-loop-k : goal.invariant-loop-k

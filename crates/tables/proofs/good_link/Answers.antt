@@ -1,5 +1,4 @@
 -- `tables::good_link` meets its contract.
-use borrow.Author.Rules.{rules}
 use Rattle.meaning.proofs.Rules.{tests}
 use Rattle.tables.proofs.good_link.Goals as goal
 

@@ -1,5 +1,4 @@
 -- `tables::good_links` meets its contract.
-use borrow.Author.Rules.{rules}
 use Rattle.meaning.proofs.Rules.{tests}
 use Rattle.tables.specs.Places.{good_span}
 use Rattle.tables.proofs.good_links.Goals as goal

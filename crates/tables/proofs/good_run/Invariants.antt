@@ -1,10 +1,7 @@
 -- `tables::good_run` meets its contract. The invariant: the links that are still due, judged from here on, are as good as all of them.
-use borrow.Author.Rules.{rules}
-use native.Mathlib.Omega.{arith}
 use Prim.Native.Nat.{◌+◌}
-use mathlib.Core.Path.{◌≡◌, refl, sym, ◌∙◌}
+use mathlib.Core.Path.{◌≡◌}
 use Rattle.tables.specs.Places.{good_from}
-use Rattle.tables.proofs.Turns.{run-good, run-bad}
 use Rattle.tables.proofs.good_run.Given as goal
 
 abbrev pub invariant-loop-due : goal.invariant-loop-due

@@ -1,5 +1,4 @@
 -- `tables::link_at` meets its contract.
-use borrow.Author.Rules.{rules}
 use Rattle.tables.proofs.link_at.Goals as goal
 
 pub returns : goal.returns

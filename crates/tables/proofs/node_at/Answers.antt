@@ -1,5 +1,4 @@
 -- `tables::node_at` meets its contract.
-use borrow.Author.Rules.{rules}
 use Rattle.tables.proofs.node_at.Goals as goal
 
 pub returns-clause-is : goal.returns-clause-is

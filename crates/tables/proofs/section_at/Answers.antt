@@ -1,5 +1,4 @@
 -- `tables::section_at` meets its contract.
-use borrow.Author.Rules.{rules}
 use native.Mathlib.Nat.{mul-le-mul_right}
 use native.Mathlib.Omega.{arith}
 use Rattle.meaning.proofs.Rules.{tests}

@@ -1,5 +1,4 @@
 -- `tables::target_kind` meets its contract.
-use borrow.Author.Rules.{rules}
 use native.Mathlib.Omega.{arith}
 use mathlib.Core.Path.{◌≡◌, ap, ◌∙◌}
 use Rattle.meaning.specs.Table as Meant

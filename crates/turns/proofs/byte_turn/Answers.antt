@@ -1,7 +1,6 @@
 -- `turns::byte_turn` meets its contract.
 use mathlib.Core.Path.{refl}
 use native.Mathlib.Omega.{arith}
-use borrow.Author.Rules.{rules}
 use Rattle.byte_steps.specs.Automaton.{taken}
 use Rattle.turns.proofs.Leading.{byte-leads, between-leads, opening-leads, skip-leads}
 use Rattle.turns.proofs.byte_turn.Goals as goal

@@ -1,5 +1,4 @@
 -- `turns::count_on` meets its contract.
-use borrow.Author.Rules.{rules}
 use Rattle.meaning.proofs.Rules.{tests}
 use Rattle.turns.proofs.count_on.Goals as goal
 

@@ -4,7 +4,6 @@ use mathlib.Core.Path.{◌≡◌, refl}
 use mathlib.Core.Bool.{true}
 use mathlib.Core.List.{List, [], ◌∷◌}
 use native.Mathlib.Omega.{arith}
-use borrow.Author.Rules.{rules}
 use denote.Enum.Declared.{tag_of}
 use types.Run.{OneOf, miss}
 use borrow.Enum.Refused.{opened}

@@ -2,7 +2,6 @@
 use mathlib.Core.Path.{refl}
 use Prim.Native.Nat.{◌+◌}
 use native.Mathlib.Omega.{arith}
-use borrow.Author.Rules.{rules}
 use Rattle.byte_steps.specs.Automaton.{taken}
 use Rattle.turns.proofs.Leading.{byte-leads, well-le, letters-go, letters-end}
 use Rattle.turns.proofs.letters_turn.Goals as goal

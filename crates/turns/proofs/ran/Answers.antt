@@ -1,5 +1,4 @@
 -- `turns::ran` meets its contract.
-use borrow.Author.Rules.{rules}
 use Rattle.turns.proofs.ran.Goals as goal
 
 pub returns : goal.returns

@@ -1,5 +1,4 @@
 -- `turns::skipped` meets its contract.
-use borrow.Author.Rules.{rules}
 use Rattle.turns.proofs.skipped.Goals as goal
 
 pub returns : goal.returns

@@ -1,7 +1,6 @@
 -- `turns::text_turn` meets its contract.
 use mathlib.Core.Path.{refl, sym, ◌∙◌}
 use native.Mathlib.Omega.{arith}
-use borrow.Author.Rules.{rules}
 use Rattle.byte_steps.specs.declared.modes.Mode.TheVariants.{Length}
 use Rattle.byte_steps.specs.Automaton.{taken}
 use Rattle.turns.proofs.Leading.{byte-leads, items-leads, named-mode}

@@ -1,7 +1,6 @@
 -- `turns::there` meets its contract.
 use mathlib.Core.Bool.{false≢true}
 use native.Mathlib.Omega.{arith}
-use borrow.Author.Rules.{rules}
 use Rattle.turns.proofs.there.Goals as goal
 
 pub returns-clause-yes : goal.returns-clause-yes

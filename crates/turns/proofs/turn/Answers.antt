@@ -1,6 +1,5 @@
 -- `turns::turn` meets its contract.
 use native.Mathlib.Omega.{arith}
-use borrow.Author.Rules.{rules}
 use Rattle.turns.proofs.turn.Goals as goal
 
 pub byte_turn-requires : goal.byte_turn-requires

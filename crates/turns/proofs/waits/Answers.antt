@@ -1,5 +1,4 @@
 -- `turns::waits` meets its contract.
-use borrow.Author.Rules.{rules}
 use Rattle.meaning.proofs.Rules.{tests}
 use Rattle.turns.proofs.waits.Goals as goal
 

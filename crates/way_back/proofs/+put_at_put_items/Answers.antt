@@ -2,15 +2,12 @@
 -- writes the shapes of its list in a loop, of which each turn leaves one item less; put_at writes a list's items, and then its node.
 use borrow.Author.Rules.{rules}
 use native.Mathlib.Omega.{arith}
-use Prim.Native.Nat.{ℕ, ◌<◌, ◌≤◌, ◌+◌, ◌*◌}
 use mathlib.Core.Path.{refl, sym, ◌∙◌}
-use lib.ListN.{length}
-use Rattle.steps.specs.Pass.{pass_shape}
 use Rattle.steps.proofs.Passing.{shape-none, shape-short, list-deep, list-cut}
 use Rattle.counts.specs.Pieces.{pieces}
 use Rattle.counts.proofs.Linked.{shape-linked}
 use Rattle.counts.proofs.Counting.{IsList, is-list}
-use Rattle.way_back.proofs.Putting.{put-none, Turn, turn-first, turn-few, turn-room, turn-text, turn_on, turn_end, list-few, own-few, items-room, own_room, sum-few, list_put}
+use Rattle.way_back.proofs.Putting.{put-none, turn-first, turn-few, turn-room, turn-text, turn_on, turn_end, list-few, own-few, items-room, own_room, sum-few, list_put}
 use Rattle.way_back.proofs.+put_at_put_items.Goals as goal
 
 -- In the answers q is the start, f the first byte read, m and g what it says, k tells the kind, b, e and x are the tests before the list, l is its

@@ -1,16 +1,9 @@
 -- The proof of the cycle of calls {put_at, put_items}. Levels left and items left fall as a pair: levels * 65,536 + items, at each call. put_items
 -- writes the shapes of its list in a loop, of which each turn leaves one item less; put_at writes a list's items, and then its node.
-use borrow.Author.Rules.{rules}
-use native.Mathlib.Omega.{arith}
-use Prim.Native.Nat.{ℕ, ◌<◌, ◌≤◌, ◌+◌, ◌*◌}
-use mathlib.Core.Path.{refl, sym, ◌∙◌}
-use lib.ListN.{length}
+use Prim.Native.Nat.{◌+◌, ◌*◌}
 use Rattle.steps.specs.Pass.{pass_shape}
-use Rattle.steps.proofs.Passing.{shape-none, shape-short, list-deep, list-cut}
 use Rattle.counts.specs.Pieces.{pieces}
-use Rattle.counts.proofs.Linked.{shape-linked}
-use Rattle.counts.proofs.Counting.{IsList, is-list}
-use Rattle.way_back.proofs.Putting.{put-none, Turn, turn-first, turn-few, turn-room, turn-text, turn_on, turn_end, list-few, own-few, items-room, own_room, sum-few, list_put}
+use Rattle.way_back.proofs.Putting.{Turn}
 use Rattle.way_back.proofs.+put_at_put_items.Given as goal
 
 abbrev pub decreases-put_at : goal.decreases-put_at

@@ -1,5 +1,4 @@
 -- `way_back::put_bare` meets its contract.
-use borrow.Author.Rules.{rules}
 use native.Mathlib.Omega.{arith}
 use Rattle.entries.proofs.Wrote.{wrote_none}
 use Rattle.way_back.proofs.put_bare.Goals as goal

@@ -1,5 +1,4 @@
 -- `way_back::put_map` meets its contract.
-use borrow.Author.Rules.{rules}
 use native.Mathlib.Omega.{arith}
 use lib.ListN.{length-append}
 use Rattle.entries.proofs.Wrote.{wrote_after}

@@ -1,5 +1,4 @@
 -- `way_back::put_plain` meets its contract.
-use borrow.Author.Rules.{rules}
 use native.Mathlib.Omega.{arith}
 use mathlib.Core.Path.{sym, ◌∙◌}
 use lib.ListN.{length-take, length-drop}

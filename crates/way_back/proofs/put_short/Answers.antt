@@ -1,5 +1,4 @@
 -- `way_back::put_short` meets its contract.
-use borrow.Author.Rules.{rules}
 use native.Mathlib.Omega.{arith}
 use Rattle.counts.proofs.Shorts.{short-blank, short-prim, short-array, short-map}
 use Rattle.way_back.proofs.put_short.Goals as goal

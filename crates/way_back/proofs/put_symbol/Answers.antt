@@ -1,5 +1,4 @@
 -- `way_back::put_symbol` meets its contract.
-use borrow.Author.Rules.{rules}
 use native.Mathlib.Omega.{arith}
 use Rattle.way_back.proofs.Texts.{symbol-after, symbol-bytes, symbol-few, symbol-cut}
 use Rattle.way_back.proofs.put_symbol.Goals as goal

@@ -1,5 +1,4 @@
 -- `way_back::to_table` meets its contract: the encoding is read first, then its entries are counted, then there is room or not.
-use borrow.Author.Rules.{rules}
 use native.Mathlib.Omega.{arith}
 use native.Mathlib.Nat.{zero-add}
 use mathlib.Core.Path.{refl, sym, ap, ◌∙◌}

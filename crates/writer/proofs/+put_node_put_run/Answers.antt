@@ -1,14 +1,12 @@
 -- The proof of the cycle of calls {put_node, put_run}. Nodes and links left fall as a pair: nodes * 65,536 + links, at each call; the targets of
 -- node i stand before it. put_run writes its links in a loop, of which each turn leaves one link less; put_node writes a list's count and links, and
 -- then its head.
-use borrow.Author.Rules.{rules}
 use native.Mathlib.Omega.{arith}
-use Prim.Native.Nat.{ℕ, ◌<◌, ◌+◌, ◌*◌}
 use native.Mathlib.Nat.{add-zero}
 use mathlib.Core.Path.{refl, sym, ◌∙◌}
 use Rattle.buffers.proofs.Written.{written_none}
 use Rattle.writer.proofs.Links.{node-formed, node-by-form, node-linked, link-named, bare-before, named-before}
-use Rattle.writer.proofs.Turns.{Turn, turn-first, turn_last, bare-child, named-child, no-child, room-name, room-child, turn_on}
+use Rattle.writer.proofs.Turns.{turn-first, turn_last, bare-child, named-child, no-child, room-name, room-child, turn_on}
 use Rattle.writer.proofs.Heads.{list-room, list_wrote}
 use Rattle.writer.proofs.+put_node_put_run.Goals as goal
 

@@ -1,5 +1,4 @@
 -- `writer::write` meets its contract: the nodes' section is looked at first, and the rest is handed on in two parts.
-use borrow.Author.Rules.{rules}
 use native.Mathlib.Omega.{arith}
 use mathlib.Core.Path.{refl}
 use lib.ListN.{length}

@@ -1,5 +1,4 @@
 -- `writer::write_parts` meets its contract: the sections are looked at first, then the nodes, then the names.
-use borrow.Author.Rules.{rules}
 use native.Mathlib.Omega.{arith}
 use mathlib.Core.Path.{refl, sym, ◌∙◌}
 use lib.ListN.{length}

@@ -1,15 +1,11 @@
 -- `writer::write_sound` meets its contract.
-use borrow.Author.Rules.{rules}
 use native.Mathlib.Omega.{arith}
 use mathlib.Core.Path.{refl, sym, ap, ◌∙◌}
-use lib.ListN.{length, get_or}
-use Prim.Native.Nat.{◌-◌}
-use Rattle.meaning.specs.Table.{table_shape}
+use lib.ListN.{length}
 use Rattle.meaning.specs.Answers.{buffer_after}
 use Rattle.buffers.specs.declared.Made.TheVariants.{Written}
 use Rattle.buffers.proofs.Written.{buffer-made}
-use Rattle.writer.specs.Bytes.{table_at}
-use Rattle.writer.proofs.Answering.{Found, nodes-are, root-encoded, root-found, found-comes}
+use Rattle.writer.proofs.Answering.{nodes-are, root-encoded, root-found, found-comes}
 use Rattle.writer.proofs.write_sound.Goals as goal
 
 pub extents_of-requires : goal.extents_of-requires

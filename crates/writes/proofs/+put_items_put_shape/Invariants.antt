@@ -1,21 +1,10 @@
 -- The proof of the cycle of calls {put_items, put_shape}. Levels left and items left fall as a pair: levels * 65,536 + items, at each call.
 -- put_items writes its list in a loop, of which each turn leaves one item less; put_shape writes a list's count and items, and then its head.
-use borrow.Author.Rules.{rules}
-use native.Mathlib.Omega.{arith}
-use Prim.Native.Nat.{ℕ, ◌<◌, ◌≤◌, ◌+◌, ◌*◌}
-use native.Mathlib.Nat.{add-zero}
-use mathlib.Core.Path.{refl, sym, ◌∙◌}
-use mathlib.Core.List.{[]}
-use mathlib.Core.Option.{some}
-use lib.ListN.{length}
-use Rattle.buffers.proofs.Written.{written_none}
+use Prim.Native.Nat.{◌+◌, ◌*◌}
 use Rattle.steps.specs.Pass.{pass_shape}
-use Rattle.steps.proofs.Passing.{shape-none, shape-short, list-deep, list-cut, items-none}
-use Rattle.steps.proofs.Inside.{shape-inside}
 use Rattle.sheets.specs.Index.{blank_in}
-use Rattle.writes.specs.Writes.{items, writes}
-use Rattle.writes.proofs.Turns.{Turn, room-name, room-shape, turn_on, turn-made}
-use Rattle.writes.proofs.Long.{packed-room, packed-wrote, long-room, long-wrote}
+use Rattle.writes.specs.Writes.{writes}
+use Rattle.writes.proofs.Turns.{Turn}
 use Rattle.writes.proofs.+put_items_put_shape.Given as goal
 
 abbrev pub decreases-put_items : goal.decreases-put_items

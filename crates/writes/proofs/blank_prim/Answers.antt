@@ -1,5 +1,4 @@
 -- `writes::blank_prim` meets its contract.
-use borrow.Author.Rules.{rules}
 use native.Mathlib.Omega.{arith}
 use mathlib.Core.Path.{sym, ◌∙◌}
 use Rattle.writes.proofs.Bytes.{found-length, found-one}

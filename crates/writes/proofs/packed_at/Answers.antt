@@ -1,5 +1,4 @@
 -- `writes::packed_at` meets its contract.
-use borrow.Author.Rules.{rules}
 use native.Mathlib.Omega.{arith}
 use mathlib.Core.Path.{refl}
 use Rattle.sheets.specs.Index.{blank_in}

@@ -1,5 +1,4 @@
 -- `writes::prim_of` meets its contract.
-use borrow.Author.Rules.{rules}
 use Rattle.meaning.proofs.Rules.{tests}
 use Rattle.writes.proofs.prim_of.Goals as goal
 

@@ -1,5 +1,4 @@
 -- `byte_steps::modes::no_primitive` meets its contract.
-use borrow.Author.Rules.{rules}
 use Rattle.byte_steps.proofs.modes.no_primitive.Goals as goal
 
 pub returns : goal.returns

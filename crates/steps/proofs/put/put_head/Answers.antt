@@ -1,5 +1,4 @@
 -- `steps::put::put_head` meets its contract.
-use borrow.Author.Rules.{rules}
 use native.Mathlib.Omega.{arith}
 use mathlib.Core.List.{[], ◌∷◌}
 use Rattle.meaning.specs.Numbers.{two_bytes}

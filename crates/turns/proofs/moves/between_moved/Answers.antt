@@ -1,5 +1,4 @@
 -- `turns::moves::between_moved` meets its contract.
-use borrow.Author.Rules.{rules}
 use Rattle.meaning.proofs.Rules.{tests}
 use Rattle.turns.specs.Moves.{between_moved}
 use Rattle.turns.proofs.moves.between_moved.Goals as goal

@@ -1,7 +1,6 @@
 -- `turns::moves::blank_due` meets its contract.
 use Prim.Native.Nat.{◌+◌}
 use native.Mathlib.Omega.{arith}
-use borrow.Author.Rules.{rules}
 use borrow.Author.Tests.{eq-eqb, ne_eqb}
 use Rattle.turns.specs.Moves.{blank_due}
 use Rattle.turns.proofs.moves.blank_due.Goals as goal

@@ -1,5 +1,4 @@
 -- `turns::moves::count_due` meets its contract.
-use borrow.Author.Rules.{rules}
 use Rattle.meaning.proofs.Rules.{tests}
 use Rattle.byte_steps.specs.Automaton.{count_due}
 use Rattle.turns.proofs.moves.count_due.Goals as goal

@@ -1,5 +1,4 @@
 -- `turns::moves::opening_moved` meets its contract.
-use borrow.Author.Rules.{rules}
 use Rattle.turns.specs.Moves.{opening_moved}
 use Rattle.turns.proofs.moves.opening_moved.Goals as goal
 
