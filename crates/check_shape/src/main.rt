@@ -3,26 +3,40 @@
 // with its error.
 #![tactic(auto)]
 
-ghost use Rattle.std.specs.Prelude.{◌≤◌, IfOk, length};
+ghost use Rattle.std.specs.Prelude.{◌≡◌, ◌≤◌, ◌<◌, IfOk, IfSome, length, take};
+ghost use Rattle.std.specs.Io.KnownBytes.{Consumes, IsAtEnd};
+ghost use Rattle.meaning.specs.Reading.{reading};
+ghost use Rattle.reader.specs.Said.{said};
 
 use leaves::limits::MAX_BYTES;
 use reader::Judgement;
 use std::io;
 use std::io::Read;
 
-// Reads until the buffer is full or the input ends: how many bytes came.
-fn read_full(input: &mut impl Read, buffer: &mut [u8]) -> io::Result<usize>
-    ensures { IfOk result (λ n. n ≤ length buffer.old) }
+// Reads until the buffer is full or the input ends: how many bytes came. They are what the input had next, where that is known.
+fn read_full<R: Read>(input: &mut R, buffer: &mut [u8]) -> io::Result<usize>
+    ensures within { IfOk result (λ n. n ≤ length buffer.new) }
+    ensures came { IfOk result (λ n. Consumes (R.remaining input.old) (R.remaining input.new) (take n buffer.new)) }
+    ensures end { IfOk result (λ n. n < length buffer.new → IsAtEnd (R.remaining input.new)) }
 {
     let mut n = 0;
     while n < buffer.len() {
         let came = input.read(&mut buffer[n..])?;
         if came == 0 {
-            break;
+            return Ok(n);
         }
         n += came;
     }
     Ok(n)
+}
+
+// Judges all that an input has, and reads no more of it than tells.
+fn judged<R: Read>(input: &mut R) -> io::Result<Judgement>
+    ensures { IfOk result (λ j. IfSome (R.remaining input.old) (λ bytes. j ≡ said (reading bytes))) }
+{
+    let mut bytes = [0u8; MAX_BYTES + 1];
+    let n = read_full(input, &mut bytes)?;
+    Ok(reader::read(&bytes[..n]))
 }
 
 fn print_line(rt: &impl Print, word: &[u8], first: usize, second: usize) -> io::Result<()> {
@@ -31,9 +45,7 @@ fn print_line(rt: &impl Print, word: &[u8], first: usize, second: usize) -> io::
 }
 
 fn main(rt: HostRuntime) -> io::Result<()> {
-    let mut bytes = [0u8; MAX_BYTES + 1];
-    let n = read_full(&mut rt.stdin(), &mut bytes)?;
-    match reader::read(&bytes[..n]) {
+    match judged(&mut rt.stdin())? {
         Judgement::Accepted { length, depth } => print_line(&rt, b"ok ", length, depth),
         Judgement::Refused { number, place } => print_line(&rt, b"no ", number, place),
     }
