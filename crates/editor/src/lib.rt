@@ -1,6 +1,6 @@
 // The editor's front: its nodes are lent as records, the rest of the table as bytes (01-scope.md, "Node table"). The records are put into bytes here,
-// six a node, and go on to the writer of tables. What has a slice of records in its hands is proved by a walk of its own code, and is kept thin: it
-// reads fields and calls. Every decision is made in a function on plain numbers.
+// six a node, and go on to the writer of tables. What has a slice of records in its hands is kept thin: it reads fields and calls. Every decision is made
+// in a function on plain numbers.
 #![tactic(auto)]
 
 ghost use Rattle.std.specs.Prelude.{◌≡◌, ◌≤◌, ◌<◌, ◌+◌, ◌*◌, length, get_or, take};
