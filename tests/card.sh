@@ -24,9 +24,12 @@ cd "$top" || { wrong "there is no folder $top"; finish; }
 host/setup 2>&1 || { wrong "host/setup: exit status $?"; finish; }
 . host/env.sh
 
-# The gate's rt ci, which comes before this, holds what the program prints to its file 'stdout': so that
-# is what it prints.
-mapfile -t bench_card <crates/bench_card/stdout
+# what the program prints, which its file 'stdout' must say too; it is proved and built anew only where something changed
+log=$(mktemp)
+trap 'rm -f "$log"' EXIT
+came=$(cd crates/bench_card && rt run 2>"$log") || { cat "$log"; wrong "bench_card: rt run: exit status $?"; finish; }
+mapfile -t bench_card <<<"$came"
+mapfile -t stdout <crates/bench_card/stdout
 
 came=$(cd host && cargo run --release --offline --locked -q -p model --bin card) \
     || { wrong "model's card: exit status $?"; finish; }
@@ -37,6 +40,7 @@ mapfile -t card <<<"$came"
 mapfile -t document < <(grep -v -e '^#' -e '^$' tests/card.txt)
 mapfile -t stated < <(printf '%s\n' "${bench_card[@]}" | grep -v '^ours, ' | sed -E 's/( EE(x[0-9]+)?)+$//')
 
+same_lines bench_card stdout
 same_lines bench_card card
 same_lines stated document
 finish

@@ -24,6 +24,9 @@ for ((i = 0; i < ${#board[@]} || i < ${#exported[@]}; i++)); do
     fi
 done
 
+# there are twelve calls
+if [ "${#board[@]}" -eq 12 ]; then passed=$((passed + 1)); else wrong "board has ${#board[@]} calls"; fi
+
 # the words of the clauses are those of the same files
 while IFS= read -r line; do
     if grep -qxF -- "$line" crates/board/src/lib.rt; then
