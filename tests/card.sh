@@ -6,20 +6,6 @@ set -u
 exec </dev/null
 . "$(dirname "$(readlink -f "${BASH_SOURCE[0]}")")/tally.bash" || exit
 
-# Compares two lists of lines, place by place.
-same_lines() { # ONE OTHER: the names of two arrays
-    local -n one=$1 other=$2
-    local i none='(no line)'
-    for ((i = 0; i < ${#one[@]} || i < ${#other[@]}; i++)); do
-        if [ "${one[i]-$none}" = "${other[i]-$none}" ]; then
-            passed=$((passed + 1))
-        else
-            wrong "line $((i + 1)) of $1 and of $2:"
-            printf '  %s\n' "${one[i]-$none}" "${other[i]-$none}"
-        fi
-    done
-}
-
 cd "$top" || { wrong "there is no folder $top"; finish; }
 host/setup 2>&1 || { wrong "host/setup: exit status $?"; finish; }
 . host/env.sh

@@ -1,5 +1,4 @@
--- `board::shiulbart_pieces_part` meets its contract. The laws of its loop are those of pieces/proofs/Looping.antt. In a turn of the loop, l is where the
--- turn begins, t what it led to, and told which act that was.
+-- `board::shiulbart_pieces_part` meets its contract. The laws of its loop are those of pieces/proofs/Looping.antt.
 use mathlib.Core.Path.{refl, ap, ◌∙◌}
 use native.Mathlib.Omega.{arith}
 use Rattle.turns.specs.Moves.{sized}
@@ -22,10 +21,8 @@ returns-then-size-gt0-clause-led c = let some = c.if-size-gt0.true in let h = c.
 
 -- no part leads to a state that is halted
 pub returns-then-halted-clause-still : goal.returns-then-halted-clause-still
-returns-then-halted-clause-still c = let z = ap sized c.mode_of-mode.ensures in
-    (λ _. refl)
+returns-then-halted-clause-still c = (λ _. refl)
 
--- no part leads to a state that is halted
 pub returns-then-halted-clause-led : goal.returns-then-halted-clause-led
 returns-then-halted-clause-led c = let z = ap sized c.mode_of-mode.ensures in
     (λ u e. absurd (omega (arith, led-room u _ e, c.halted.ensures.yes c.if-halted.true (led-open u _ e))))
@@ -96,6 +93,5 @@ loop-k-preserved c = let l = c.loop-k in (rw (c.taken_up-t.ensures, c.level_of-i
 pub returns-in-Rest-clause-still : goal.returns-in-Rest-clause-still
 returns-in-Rest-clause-still c = let l = c.loop-k in (λ h. absurd (omega (arith, h, (c.halted.ensures.no c.if-halted.false).0)))
 
--- the part is at its end
 pub returns-in-Rest-clause-led : goal.returns-in-Rest-clause-led
 returns-in-Rest-clause-led c = let l = c.loop-k in λ u e. rw (c.entry_of-state.ensures, c.kinds_with.ensures, c.word_of-state.ensures, l.invariant.1 ∙ led-open u _ e) (rest-led l.invariant.0 c.turn-t.ensures c.in-Rest.is u e)

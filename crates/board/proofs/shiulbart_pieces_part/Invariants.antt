@@ -1,5 +1,4 @@
--- `board::shiulbart_pieces_part` meets its contract. The laws of its loop are those of pieces/proofs/Looping.antt. In a turn of the loop, l is where the
--- turn begins, t what it led to, and told which act that was.
+-- `board::shiulbart_pieces_part` meets its contract. The laws of its loop are those of pieces/proofs/Looping.antt.
 use mathlib.Core.Path.{◌≡◌}
 use Rattle.turns.specs.Leads.{to_do}
 use Rattle.pieces.proofs.Looping.{Inv}

@@ -7,9 +7,6 @@ use Rattle.counts.specs.Pieces.{no_items, pieces}
 use Rattle.counts.proofs.Counting.{text_few, shape-few, sum-few, tally-turn, tally-end, is-list, list-few, list-sum, list_counted}
 use Rattle.counts.proofs.+count_at_count_items.Goals as goal
 
--- In the answers q is the start; in count_at's f is the first byte read, m what it says, k tells the kind, b, e and x are the tests before the list,
--- l is its listing, w its items counted, u what its node has for itself; in count-items' o is the loop, n the name passed over, p its text measured,
--- w the shape counted.
 pub count_at-bounds-s-at : goal.count_at-bounds-s-at
 count_at-bounds-s-at t c = let h = rw c.in-Short.is at c.first_at.ensures.inside in h.0
 

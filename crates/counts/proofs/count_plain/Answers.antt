@@ -1,4 +1,4 @@
--- `counts::count_plain` meets its contract. In the answers e is the start, k tells the kind.
+-- `counts::count_plain` meets its contract.
 use borrow.Author.Rules.{rules}
 use mathlib.Core.Path.{refl, sym, ◌∙◌}
 use Rattle.counts.specs.Pieces.{pieces}

@@ -1,4 +1,4 @@
--- `counts::count_symbol` meets its contract. In the answers l is the list found, o the loop, n the name passed over.
+-- `counts::count_symbol` meets its contract.
 use Rattle.counts.proofs.Counting.{Texts}
 use Rattle.counts.proofs.count_symbol.Given as goal
 

@@ -1,6 +1,5 @@
 -- The entries that a list's node has for its items are written in a loop, of which each turn leaves one item less; a section that has none of them is
--- left as it is. In the answers q is the start, h whether it has some, o the loop, n the name passed over, p the shape counted, b the target found and u
--- the item written.
+-- left as it is.
 use Rattle.entries.proofs.Owning.{Turn}
 use Rattle.entries.proofs.put_own.Given as goal
 

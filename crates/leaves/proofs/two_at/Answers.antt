@@ -11,7 +11,7 @@ pub overflow_add-result : goal.overflow_add-result
 overflow_add-result c = let g = c.type_inv.s in let at = c.args.at in omega (arith, g at, g (at + 1))
 
 pub returns-clause-is : goal.returns-clause-is
-returns-clause-is c = let g = c.type_inv.s in let at = c.args.at in refl
+returns-clause-is c = refl
 
 pub returns-clause-small : goal.returns-clause-small
 returns-clause-small c = let g = c.type_inv.s in let at = c.args.at in omega (arith, g at, g (at + 1))

@@ -26,7 +26,7 @@ unfolding finish
 ended s h k = rw (le-ltb max_bytes s.count h, le-ltb s.count s.whole k)
 
 pub returns-then-state-gt-BYTES-clause-closed : goal.returns-then-state-gt-BYTES-clause-closed
-returns-then-state-gt-BYTES-clause-closed c = let s = c.args.state in refl
+returns-then-state-gt-BYTES-clause-closed c = refl
 
 pub returns-then-state-gt-BYTES-clause-led : goal.returns-then-state-gt-BYTES-clause-led
 returns-then-state-gt-BYTES-clause-led c = let s = c.args.state in (λ u b e. over s c.if-state-gt-BYTES.true ∙ finish-led u s b e)
@@ -35,7 +35,7 @@ pub returns-then-state-gt-BYTES-clause-small : goal.returns-then-state-gt-BYTES-
 returns-then-state-gt-BYTES-clause-small c = let s = c.args.state in (omega arith, omega arith)
 
 pub returns-then-state-clause-closed : goal.returns-then-state-clause-closed
-returns-then-state-clause-closed c = let s = c.args.state in refl
+returns-then-state-clause-closed c = refl
 
 pub returns-then-state-clause-led : goal.returns-then-state-clause-led
 returns-then-state-clause-led c = let s = c.args.state in (λ u b e. cut s c.if-state-gt-BYTES.false c.if-state.true ∙ finish-led u s b e)
@@ -44,8 +44,7 @@ pub returns-then-state-clause-small : goal.returns-then-state-clause-small
 returns-then-state-clause-small c = let s = c.args.state in (omega arith, omega arith)
 
 pub returns-clause-closed : goal.returns-clause-closed
-returns-clause-closed c = let s = c.args.state in let is = rw c.mode_of.ensures at c.verdict.ensures ∙ ended s c.if-state-gt-BYTES.false c.if-state.false in
-    refl
+returns-clause-closed c = refl
 
 pub returns-clause-led : goal.returns-clause-led
 returns-clause-led c = let s = c.args.state in let is = rw c.mode_of.ensures at c.verdict.ensures ∙ ended s c.if-state-gt-BYTES.false c.if-state.false in

@@ -61,7 +61,7 @@ items-returns-clause-is t c = let z : c.loop-due.due ≡ 0 = omega arith in sym 
 
 pub items-returns-clause-inside : goal.items-returns-clause-inside
 unfolding walk_items
-items-returns-clause-inside t c = let z : c.loop-due.due ≡ 0 = omega arith in c.loop-due.invariant.1
+items-returns-clause-inside t c = c.loop-due.invariant.1
 
 pub shape-items-requires : goal.shape-items-requires
 shape-items-requires t c = let h = rw c.in-Items.is at c.opening_at.ensures.inside in omega arith

@@ -32,4 +32,4 @@ returns-clause-is c = let e = c.encodings_at in let t = c.two_at-bytes in rw (â†
 
 pub returns-clause-found : goal.returns-clause-found
 unfolding second_at
-returns-clause-found c = let e = c.encodings_at in let t = c.two_at-bytes in e.ensures.found
+returns-clause-found c = let e = c.encodings_at in e.ensures.found

@@ -71,16 +71,14 @@ items_size-loop-due-preserved t c = let a = c.args in let i : c.past_name-start.
 pub items_size-returns-clause-is : goal.items_size-returns-clause-is
 items_size-returns-clause-is t c = let a = c.args in let g = c.loop-due.invariant in sym (g.5 ∙ items-none (sizes (blank_in a.sheet.now)) _ _ _ _ _ _ (search rules))
 
--- all items
 pub items_size-returns-clause-inside : goal.items_size-returns-clause-inside
-items_size-returns-clause-inside t c = let a = c.args in let g = c.loop-due.invariant in (g.0, g.1, g.2, g.3)
+items_size-returns-clause-inside t c = let g = c.loop-due.invariant in (g.0, g.1, g.2, g.3)
 
 -- a list with no level left for it
 pub shape_size-returns-then-left-eq0-clause-is : goal.shape_size-returns-then-left-eq0-clause-is
 shape_size-returns-then-left-eq0-clause-is t c = let a = c.args in c.nothing.ensures
     ∙ sym (list-deep (sizes (blank_in a.sheet.now)) a.left a.s.now a.at c.requires.4 (sym c.shaped_kind.ensures ∙ c.if-shaped_kind.true) c.if-left-eq0.true)
 
--- a list with no level left for it
 pub shape_size-returns-then-left-eq0-clause-inside : goal.shape_size-returns-then-left-eq0-clause-inside
 shape_size-returns-then-left-eq0-clause-inside t c = let a = c.args in nothing-inside a.left a.s.now a.at c.nothing.result (search rules) c.nothing.ensures
 
@@ -89,7 +87,6 @@ pub shape_size-returns-then-s-at-lt-HEAD_SIZE-clause-is : goal.shape_size-return
 shape_size-returns-then-s-at-lt-HEAD_SIZE-clause-is t c = let a = c.args in c.nothing-then-s-at-lt-HEAD_SIZE.ensures
     ∙ sym (list-cut (sizes (blank_in a.sheet.now)) a.left a.s.now a.at c.requires.4 (sym c.shaped_kind.ensures ∙ c.if-shaped_kind.true) (search rules) c.if-s-at-lt-HEAD_SIZE.true)
 
--- a list whose head is cut off
 pub shape_size-returns-then-s-at-lt-HEAD_SIZE-clause-inside : goal.shape_size-returns-then-s-at-lt-HEAD_SIZE-clause-inside
 shape_size-returns-then-s-at-lt-HEAD_SIZE-clause-inside t c = let a = c.args in nothing-inside a.left a.s.now a.at c.nothing-then-s-at-lt-HEAD_SIZE.result (search rules) c.nothing-then-s-at-lt-HEAD_SIZE.ensures
 

@@ -10,9 +10,6 @@ use Rattle.counts.proofs.Counting.{IsList, is-list}
 use Rattle.way_back.proofs.Putting.{put-none, turn-first, turn-few, turn-room, turn-text, turn_on, turn_end, list-few, own-few, items-room, own_room, sum-few, list_put}
 use Rattle.way_back.proofs.+put_at_put_items.Goals as goal
 
--- In the answers q is the start, f the first byte read, m and g what it says, k tells the kind, b, e and x are the tests before the list, l is its
--- listing, v its items written, u its node written, w a shape of one byte or with another payload written, and n what was counted; in put-items' o is
--- the loop, n the name passed over, p its text measured and v the shape written.
 pub put_at-bounds-s-at : goal.put_at-bounds-s-at
 put_at-bounds-s-at t c = let h = rw c.in-Short.is at c.first_at.ensures.inside in search rules
 

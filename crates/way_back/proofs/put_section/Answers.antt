@@ -1,5 +1,4 @@
--- A section is its count in two bytes and what the shape adds to it. In the answers q is the start, v the count written, z nothing counted and w the
--- shape written.
+-- A section is its count in two bytes and what the shape adds to it.
 use borrow.Author.Rules.{rules}
 use native.Mathlib.Omega.{arith}
 use mathlib.Core.Path.{refl}

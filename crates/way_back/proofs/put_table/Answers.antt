@@ -1,4 +1,4 @@
--- A table is its four sections, one after the other. In the answers q is the start, and u, v, w and x are the sections written.
+-- A table is its four sections, one after the other.
 use native.Mathlib.Omega.{arith}
 use lib.ListN.{length-append}
 use Rattle.entries.proofs.Wrote.{wrote_after}

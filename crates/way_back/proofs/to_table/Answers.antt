@@ -9,7 +9,7 @@ use Rattle.buffers.proofs.Written.{buffer-made}
 use Rattle.way_back.proofs.Cases.{found, found-few, found-short, answer-unread, answer-short, sections-fit, answer-made}
 use Rattle.way_back.proofs.to_table.Goals as goal
 
--- In each answer e tells that the reader accepts, r is the input read, b says that it is bytes, f what it encodes.
+-- In each answer s is the input, and f says what it encodes, since the reader accepts it.
 pub count_at-requires : goal.count_at-requires
 count_at-requires c = let s = c.args.bytes.now in let f = found s (λ i. omega (arith, c.type_inv.bytes i)) _ _ (sym c.read.ensures ∙ c.in-Accepted.is) in
     (omega arith, found-short s f, omega arith, found-few s f)

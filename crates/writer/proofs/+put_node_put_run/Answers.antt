@@ -10,8 +10,6 @@ use Rattle.writer.proofs.Turns.{turn-first, turn_last, bare-child, named-child, 
 use Rattle.writer.proofs.Heads.{list-room, list_wrote}
 use Rattle.writer.proofs.+put_node_put_run.Goals as goal
 
--- In the answers q is the start, n the node read, f its form taken, m what that says; w, v and u are the count, the links and the head written. In
--- put-run's o is the loop, k the link read, p its name written, m what its way says, v its target written.
 pub put_node-form_of-requires : goal.put_node-form_of-requires
 put_node-form_of-requires t c = node-formed _ _ _ _ c.requires.0 _ c.requires.1 _ c.node_at-node.ensures.is
 

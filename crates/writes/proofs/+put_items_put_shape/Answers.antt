@@ -17,9 +17,6 @@ use Rattle.writes.proofs.Turns.{room-name, room-shape, turn_on, turn-made}
 use Rattle.writes.proofs.Long.{packed-room, packed-wrote, long-room, long-wrote}
 use Rattle.writes.proofs.+put_items_put_shape.Goals as goal
 
--- In the answers q is the start, o the loop, n the name passed over, p it written, f the first byte read, m what it says, w the shape written; in
--- put-shape's k tells the kind, b, e and x are the tests before the list, l is its listing, j the look at it, g the test of that look, and w, v, u
--- are the count, the items and the head written.
 pub put_items-loop-due-init : goal.put_items-loop-due-init
 put_items-loop-due-init t c = record { a = items (some 0) []; goes = refl; wrote = sym (written_none _ _); to_is = sym (add-zero _); long = refl; inside = c.requires.1; fewer = omega arith }
 
