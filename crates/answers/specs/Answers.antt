@@ -1,17 +1,13 @@
 -- What a call says, in four numbers: number 0 is an answer, and a field that a call does not use is 0; otherwise number and place are the paper's,
 -- and length and extra are 0. To be believed.
-use Rattle.std.specs.Prelude.{ℕ, ◌<◌}
-use Rattle.meaning.specs.Refusals.{sheet_broken}
-use Rattle.buffers.specs.declared.Made.{Made}
-use Rattle.buffers.specs.declared.Made.TheVariants as made
-use Rattle.reader.specs.declared.Judgement.{Judgement}
-use Rattle.reader.specs.declared.Judgement.TheVariants as judged
+use Rattle.std.specs.Prelude.{ℕ, ◌<◌, Result, Ok, Err}
+use Rattle.leaves.specs.Faults.{number_of}
+use Rattle.leaves.specs.declared.refusals.Refusal.{Refusal}
+use Rattle.reader.specs.declared.Accepted.{Accepted}
 use Rattle.parts.specs.declared.FoundChild.{FoundChild}
-use Rattle.parts.specs.declared.FoundChild.TheVariants as child
+use Rattle.parts.specs.declared.FoundChild.TheVariants.{Part, Primitive}
 use Rattle.parts.specs.declared.FoundName.{FoundName}
-use Rattle.parts.specs.declared.FoundName.TheVariants as name
-use Rattle.sheets.specs.declared.Checked.{Checked}
-use Rattle.sheets.specs.declared.Checked.TheVariants as sheet
+use Rattle.sheets.specs.declared.Sound.{Sound}
 use Rattle.answers.specs.declared.Answer.{Answer}
 
 abbrev pub answered : ℕ → ℕ → ℕ → Answer
@@ -25,27 +21,27 @@ abbrev pub Fits : Answer → Type 0
 Fits a = (a.number < 4294967296) × (a.place < 4294967296) × (a.length < 4294967296) × (a.extra < 4294967296)
 
 -- the reader: length and depth
-abbrev pub read_put : Judgement → Answer
-read_put (judged.Accepted length depth) = answered 0 length depth
-read_put (judged.Refused number place) = refused number place
+abbrev pub accepted_put : Accepted → Answer
+accepted_put shape = answered 0 shape.length shape.depth
 
 -- a child with bytes: its place and length, extra 0; a packed parent's child: the primitive's number as place, length 0, extra 1
 abbrev pub child_put : FoundChild → Answer
-child_put (child.Part place length) = answered place length 0
-child_put (child.Primitive number) = answered number 0 1
-child_put (child.Refused number place) = refused number place
+child_put (Part place length) = answered place length 0
+child_put (Primitive number) = answered number 0 1
 
 -- a name: its text's place and length, extra 0
 abbrev pub name_put : FoundName → Answer
-name_put (name.Text place length) = answered place length 0
-name_put (name.Refused number place) = refused number place
+name_put name = answered name.place name.length 0
 
 -- a sheet: how many bytes of encodings it has, and how many entries
-abbrev pub sheet_put : Checked → Answer
-sheet_put (sheet.Sound entries bytes) = answered 0 bytes entries
-sheet_put (sheet.Broken place) = refused sheet_broken place
+abbrev pub sound_put : Sound → Answer
+sound_put sheet = answered 0 sheet.bytes sheet.entries
 
 -- a call that writes: how many bytes were written
-abbrev pub made_put : Made → Answer
-made_put (made.Written length) = answered 0 length 0
-made_put (made.Refused number place) = refused number place
+abbrev pub written_put : ℕ → Answer
+written_put length = answered 0 length 0
+
+-- what was said is put into numbers as it is; a refusal has its number and place
+abbrev pub said_put : {T : Type 0} → (T → Answer) → Result T Refusal → Answer
+said_put put (Ok it) = put it
+said_put put (Err r) = refused (number_of r.fault) r.place

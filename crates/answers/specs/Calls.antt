@@ -8,9 +8,8 @@ use Rattle.meaning.specs.Reading.{Reading, got, bad}
 use Rattle.meaning.specs.Sheet.{Sheet, encodings}
 use Rattle.meaning.specs.Answers as Meant
 use Rattle.meaning.specs.Parts.{Child, part, packed_prim, children, child_of, names, name_text, name_place}
-use Rattle.buffers.specs.Said.{made_said}
 use Rattle.answers.specs.declared.Answer.{Answer}
-use Rattle.answers.specs.Answers.{answered, refused, made_put}
+use Rattle.answers.specs.Answers.{answered, refused}
 
 -- `shiulbart_read`: the shape's length and depth, or the refusal
 abbrev pub read_answer : Reading Shape → Answer
@@ -41,6 +40,7 @@ abbrev pub sheet_answer : Reading Sheet → Answer
 sheet_answer (got σ left) = answered 0 (length (encodings σ)) (length σ)
 sheet_answer (bad number place) = refused number place
 
--- `shiulbart_fill`, `shiulbart_join`, `shiulbart_write` and `shiulbart_table`
+-- `shiulbart_fill`, `shiulbart_join`, `shiulbart_write` and `shiulbart_table`: how many bytes were written, or the refusal
 abbrev pub made_answer : Meant.Answer → Answer
-made_answer a = made_put (made_said a)
+made_answer (Meant.answered w) = answered 0 (length w) 0
+made_answer (Meant.refused number place) = refused number place

@@ -1,14 +1,14 @@
-// What a call says, in four numbers of 32 bits: the one place where an enum's case becomes numbers. The board's calls hand these out.
+// What a call says, in four numbers of 32 bits: the one place where what was said becomes numbers. The board's calls hand these out.
 #![tactic(auto)]
 
-ghost use Rattle.std.specs.Prelude.{◌≡◌, ◌<◌};
-ghost use Rattle.answers.specs.Answers.{answered, refused, Fits, read_put, child_put, name_put, sheet_put, made_put};
+ghost use Rattle.std.specs.Prelude.{ℕ, ◌≡◌, ◌<◌};
+ghost use Rattle.answers.specs.Answers.{answered, refused, Fits, said_put, accepted_put, child_put, name_put, sound_put, written_put};
+ghost use Rattle.answers.specs.declared.Answer.{Answer};
 
-use buffers::Made;
-use leaves::refusals::SHEET_BROKEN;
+use leaves::refusals::Refusal;
 use parts::{FoundChild, FoundName};
-use reader::Judgement;
-use sheets::Checked;
+use reader::Accepted;
+use sheets::Sound;
 
 // What every call says. Number 0 is an answer; otherwise number and place are the paper's. A field that a call does not use is 0.
 #[repr(C)]
@@ -21,7 +21,7 @@ pub struct Answer {
 }
 
 // An answer in 32 bits a number.
-fn answer_of(place: usize, length: usize, extra: usize) -> Answer
+pub fn answer_of(place: usize, length: usize, extra: usize) -> Answer
     requires { (place < 4294967296) × (length < 4294967296) × (extra < 4294967296) }
     ensures { result ≡ answered place length extra }
 {
@@ -34,7 +34,7 @@ fn answer_of(place: usize, length: usize, extra: usize) -> Answer
 }
 
 // A refusal in 32 bits a number.
-fn refusal_of(number: usize, place: usize) -> Answer
+pub fn refusal_of(number: usize, place: usize) -> Answer
     requires { (number < 4294967296) × (place < 4294967296) }
     ensures { result ≡ refused number place }
 {
@@ -46,58 +46,70 @@ fn refusal_of(number: usize, place: usize) -> Answer
     }
 }
 
-// What the reader said: length, and depth as extra.
-pub fn read_answer(judged: Judgement) -> Answer
-    requires { Fits (read_put judged) }
-    ensures { result ≡ read_put judged }
-{
-    match judged {
-        Judgement::Refused { number, place } => refusal_of(number, place),
-        Judgement::Accepted { length, depth } => answer_of(0, length, depth),
+// What a call says that does not refuse, as an answer.
+pub trait Said {
+    ghost put: { Self → Answer };
+
+    fn told(self) -> Answer
+        requires { Fits (put self) }
+        ensures { result ≡ put self };
+}
+
+// Of the reader: length, and depth as extra.
+impl Said for Accepted {
+    ghost put = { accepted_put };
+
+    fn told(self) -> Answer {
+        answer_of(0, self.length, self.depth)
     }
 }
 
-// What was said of a child: its place and length, or a primitive's number as place with extra 1.
-pub fn child_answer(found: FoundChild) -> Answer
-    requires { Fits (child_put found) }
-    ensures { result ≡ child_put found }
-{
-    match found {
-        FoundChild::Refused { number, place } => refusal_of(number, place),
-        FoundChild::Primitive { number } => answer_of(number, 0, 1),
-        FoundChild::Part { place, length } => answer_of(place, length, 0),
+// Of a child: its place and length, or a primitive's number as place with extra 1.
+impl Said for FoundChild {
+    ghost put = { child_put };
+
+    fn told(self) -> Answer {
+        match self {
+            FoundChild::Primitive { number } => answer_of(number, 0, 1),
+            FoundChild::Part { place, length } => answer_of(place, length, 0),
+        }
     }
 }
 
-// What was said of a name: its text's place and length.
-pub fn name_answer(found: FoundName) -> Answer
-    requires { Fits (name_put found) }
-    ensures { result ≡ name_put found }
-{
-    match found {
-        FoundName::Refused { number, place } => refusal_of(number, place),
-        FoundName::Text { place, length } => answer_of(place, length, 0),
+// Of a name: its text's place and length.
+impl Said for FoundName {
+    ghost put = { name_put };
+
+    fn told(self) -> Answer {
+        answer_of(self.place, self.length, 0)
     }
 }
 
-// What was said of a sheet: how many bytes of encodings it has as length, and how many entries as extra.
-pub fn sheet_answer(checked: Checked) -> Answer
-    requires { Fits (sheet_put checked) }
-    ensures { result ≡ sheet_put checked }
-{
-    match checked {
-        Checked::Broken { place } => refusal_of(SHEET_BROKEN, place),
-        Checked::Sound { entries, bytes } => answer_of(0, bytes, entries),
+// Of a sheet: how many bytes of encodings it has as length, and how many entries as extra.
+impl Said for Sound {
+    ghost put = { sound_put };
+
+    fn told(self) -> Answer {
+        answer_of(0, self.bytes, self.entries)
     }
 }
 
-// What a call that writes into a lent buffer said: how many bytes were written as length.
-pub fn made_answer(made: Made) -> Answer
-    requires { Fits (made_put made) }
-    ensures { result ≡ made_put made }
+// Of a call that writes into a lent buffer: how many bytes were written as length.
+impl Said for usize {
+    ghost put = { written_put };
+
+    fn told(self) -> Answer {
+        answer_of(0, self, 0)
+    }
+}
+
+// What a call says: its answer, or its refusal.
+pub fn in_numbers<T: Said>(said: Result<T, Refusal>) -> Answer
+    requires { Fits (said_put T.put said) }
+    ensures { result ≡ said_put T.put said }
 {
-    match made {
-        Made::Refused { number, place } => refusal_of(number, place),
-        Made::Written { length } => answer_of(0, length, 0),
+    match said {
+        Ok(it) => it.told(),
+        Err(refusal) => refusal_of(refusal.fault.number(), refusal.place),
     }
 }

@@ -5,7 +5,7 @@ fn repeated_byte(front: &[u8], part: &[u8], i: usize) -> u8 {
     if i < front.len() {
         return front[i];
     }
-    if part.len() == 0 {
+    if part.is_empty() {
         return 0;
     }
     part[(i - front.len()) % part.len()]
@@ -13,10 +13,8 @@ fn repeated_byte(front: &[u8], part: &[u8], i: usize) -> u8 {
 
 // A front, and a part after it, over and over.
 pub fn put_repeated(front: &[u8], part: &[u8], out: &mut [u8]) {
-    let mut i = 0;
-    while i < out.len() {
-        out[i] = repeated_byte(front, part, i);
-        i += 1;
+    for (i, b) in out.iter_mut().enumerate() {
+        *b = repeated_byte(front, part, i);
     }
 }
 
@@ -25,20 +23,17 @@ fn nested_byte(inner: u8, i: usize, left: usize) -> u8 {
     if left < 2 {
         return inner;
     }
-    if i % 3 == 0 {
-        return 0x40;
+    match i % 3 {
+        0 => 0x40,
+        1 => ((left - 2) % 256) as u8,
+        _ => 0,
     }
-    if i % 3 == 1 {
-        return ((left - 2) % 256) as u8;
-    }
-    0
 }
 
 // Arrays in their long form, one in the other, round a shape of one byte: 3 bytes for each Array, and that one.
 pub fn put_nested(inner: u8, out: &mut [u8]) {
-    let mut i = 0;
-    while i < out.len() {
-        out[i] = nested_byte(inner, i, out.len() - i);
-        i += 1;
+    let size = out.len();
+    for (i, b) in out.iter_mut().enumerate() {
+        *b = nested_byte(inner, i, size - i);
     }
 }

@@ -3,11 +3,11 @@
 --     RecordsPost          what `write_records` says
 --     BoardRecordsPost     what `shiulbart_write_records` says
 -- Assumes nothing.
-use Rattle.std.specs.Prelude.{ℕ, List}
+use Rattle.std.specs.Prelude.{ℕ, List, Result}
 use contract.Lifetimes.{Lfts}
 use denote.Ref.{Bor}
 use denote.MutBor.{MutBor}
-use Rattle.buffers.specs.declared.Made.{Made}
+use Rattle.leaves.specs.declared.refusals.Refusal.{Refusal}
 use Rattle.editor.specs.declared.Node.{Node}
 use Rattle.answers.specs.declared.Answer.{Answer}
 use Rattle.editor.proofs.write_records.Reads as records
@@ -16,7 +16,7 @@ use Rattle.board.proofs.shiulbart_write_records.Reads as board-records
 abbrev pub Parameters : Type 0
 Parameters = Bor (List Node) × (Bor (List ℕ) × (MutBor (List ℕ) × Unit {0}))
 
-abbrev pub RecordsPost : Lfts 3 → Parameters → Made → Parameters → Type 0
+abbrev pub RecordsPost : Lfts 3 → Parameters → Result ℕ Refusal → Parameters → Type 0
 RecordsPost = records.Post
 
 abbrev pub BoardRecordsPost : Lfts 3 → Parameters → Answer → Parameters → Type 0

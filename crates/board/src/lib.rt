@@ -12,39 +12,40 @@ ghost use Rattle.pieces.specs.Led.{closed_of, led_to};
 ghost use Rattle.answers.specs.Calls.{read_answer, child_answer, name_answer, sheet_answer, made_answer};
 ghost use Rattle.board.specs.Answers.{records_answer};
 
-use answers::{Answer, child_answer, made_answer, name_answer, read_answer, sheet_answer};
+use answers::{Answer, answer_of, in_numbers, refusal_of};
+use byte_steps::modes::Mode;
 use editor::Node;
 use pieces::{halted, lettered, letters_only};
-use states::{DIGIT, State, entry_of, kinds_with, level_of, mode_of, no_entry, word_of};
+use states::{DIGIT, Entry, NO_ENTRY, State, Word, kinds_with, level_of};
 use turns::moves::Act;
-use turns::{begun, taken_up, turn};
+use turns::{begun, turn};
 
 // Judges an encoding: its length, and its depth as extra, or the refusal.
 pub fn shiulbart_read(bytes: &[u8]) -> Answer
     ensures { result ≡ read_answer (reading bytes.now) }
 {
-    read_answer(reader::read(bytes))
+    in_numbers(reader::read(bytes))
 }
 
 // Child k of an encoding: its place and length, or a primitive's number as place with extra 1, or the refusal.
 pub fn shiulbart_child(bytes: &[u8], k: u64) -> Answer
     ensures { result ≡ child_answer (reading bytes.now) k }
 {
-    child_answer(parts::child(bytes, k))
+    in_numbers(parts::child(bytes, k))
 }
 
 // Name k of an encoding: its text's place and length, or the refusal.
 pub fn shiulbart_name(bytes: &[u8], k: u64) -> Answer
     ensures { result ≡ name_answer (reading bytes.now) k }
 {
-    name_answer(parts::name(bytes, k))
+    in_numbers(parts::name(bytes, k))
 }
 
 // Checks a sheet: how many bytes of encodings it has as length, how many entries as extra, or the refusal.
 pub fn shiulbart_sheet(sheet: &[u8]) -> Answer
     ensures { result ≡ sheet_answer (read_sheet sheet_broken sheet.now) }
 {
-    sheet_answer(sheets::check(sheet))
+    in_numbers(sheets::check(sheet))
 }
 
 // Fills a template with a sheet, into the front of a lent buffer: how many bytes were written as length, or the refusal.
@@ -52,7 +53,7 @@ pub fn shiulbart_fill(template: &[u8], sheet: &[u8], out: &mut [u8]) -> Answer
     ensures is { result ≡ made_answer (fill_answer template.now sheet.now (length out.old)) }
     ensures buffer { out.new ≡ buffer_after out.old (fill_answer template.now sheet.now (length out.old)) }
 {
-    made_answer(fills::fill(template, sheet, out))
+    in_numbers(fills::fill(template, sheet, out))
 }
 
 // Joins two sheets, into the front of a lent buffer: how many bytes were written as length, or the refusal.
@@ -60,7 +61,7 @@ pub fn shiulbart_join(first: &[u8], second: &[u8], out: &mut [u8]) -> Answer
     ensures is { result ≡ made_answer (join_answer first.now second.now (length out.old)) }
     ensures buffer { out.new ≡ buffer_after out.old (join_answer first.now second.now (length out.old)) }
 {
-    made_answer(joins::join(first, second, out))
+    in_numbers(joins::join(first, second, out))
 }
 
 // Writes the encoding of what a node table means, into the front of a lent buffer: how many bytes were written as length, or the refusal.
@@ -68,14 +69,14 @@ pub fn shiulbart_write(table: &[u8], out: &mut [u8]) -> Answer
     ensures is { result ≡ made_answer (write_answer table.now (length out.old)) }
     ensures buffer { out.new ≡ buffer_after out.old (write_answer table.now (length out.old)) }
 {
-    made_answer(writer::write(table, out))
+    in_numbers(writer::write(table, out))
 }
 
 // The same of a table whose nodes are lent as records, and the rest of it as bytes.
 pub fn shiulbart_write_records(nodes: &[Node], rest: &[u8], out: &mut [u8]) -> Answer
     ensures { (result, out.new) ≡ records_answer nodes.now rest.now out.old }
 {
-    made_answer(editor::write_records(nodes, rest, out))
+    in_numbers(editor::write_records(nodes, rest, out))
 }
 
 // Makes the node table of an encoding, in the front of a lent buffer: how many bytes were written as length, or the refusal.
@@ -83,7 +84,7 @@ pub fn shiulbart_table(bytes: &[u8], out: &mut [u8]) -> Answer
     ensures is { result ≡ made_answer (table_answer bytes.now (length out.old)) }
     ensures buffer { out.new ≡ buffer_after out.old (table_answer bytes.now (length out.old)) }
 {
-    made_answer(way_back::to_table(bytes, out))
+    in_numbers(way_back::to_table(bytes, out))
 }
 
 // A reader that is fed with parts: the state before any bytes. A state is plain numbers, and the host keeps it between two calls.
@@ -100,57 +101,46 @@ pub fn shiulbart_pieces_part(mut state: State, part: &[u8]) -> State
     ensures led { (u : List ℕ) → state ≡ led_to u → result ≡ led_to (u ++ part.now) }
 {
     let next = state.next;
-    let size = letters_only(part, next, state.count, state.closed);
-    if 0 < size {
+    if let Some(size) = letters_only(part, next, state.count, state.closed) {
         state.next = lettered(next, size);
         state.count += size;
         return state;
     }
-    let mode = mode_of(next);
+    let mode = Mode::from(next);
     if halted(state.closed, state.used, mode) {
         return state;
     }
-    let first = state.top;
-    let mut t = begun(
-        mode,
-        level_of(first, state.kinds),
-        state.count,
-        state.whole,
-        state.deepest,
-    );
+    let top = level_of(state.top, state.kinds);
+    let mut t = begun(mode, top, state.count, state.whole, state.deepest);
     let mut n = state.used;
     let mut kinds = state.kinds / DIGIT;
+    // no iterator: each turn takes what the one before it gave, and says itself when the part is at its end
     loop {
         // the level in hand, should the turn lay it by
         let over = t.top;
         t = turn(part, t, n);
-        let act = t.act;
-        match act {
+        match t.act {
             Act::Stay => {}
             Act::Push => {
-                let k = n as usize;
-                state.levels[k] = entry_of(over);
+                state.levels[n as usize] = Entry::from(over);
                 kinds = kinds_with(kinds, over);
                 n += 1;
             }
             Act::Pop => {
                 n -= 1;
                 let k = n as usize;
-                let entry = state.levels[k];
-                state.levels[k] = no_entry();
-                t = taken_up(t, level_of(entry, kinds));
-                kinds = kinds / DIGIT;
+                t.top = level_of(state.levels[k], kinds);
+                state.levels[k] = NO_ENTRY;
+                kinds /= DIGIT;
             }
             Act::Rest => {
-                let mode = t.mode;
-                let top = t.top;
-                state.top = entry_of(top);
-                state.kinds = kinds_with(kinds, top);
-                state.next = word_of(mode);
-                state.used = n;
+                state.next = Word::from(t.mode);
                 state.count = t.count;
                 state.whole = t.whole;
+                state.used = n;
                 state.deepest = t.deepest;
+                state.kinds = kinds_with(kinds, t.top);
+                state.top = Entry::from(t.top);
                 return state;
             }
         }
@@ -171,10 +161,12 @@ pub fn shiulbart_pieces_finish(state: State) -> PiecesEnd
     ensures led { (u : List ℕ) → Bytes u → closed_of state ≡ closed_of (led_to u) → result.answer ≡ read_answer (reading u) }
 {
     let finished = pieces::finish(state);
-    let closed = finished.state;
-    let answer = finished.answer;
+    let answer = match finished.answer {
+        Ok(it) => answer_of(0, it.length, it.depth),
+        Err(it) => refusal_of(it.number as usize, it.place as usize),
+    };
     PiecesEnd {
-        state: closed,
-        answer: read_answer(answer),
+        state: finished.state,
+        answer,
     }
 }

@@ -12,17 +12,18 @@ use Rattle.meaning.specs.Shape.{Shape, depth}
 use Rattle.meaning.specs.Encode.{encode}
 use Rattle.meaning.specs.Answers.{answered, refused, in_room, made}
 use Rattle.meaning.proofs.Rules.{rule, tests}
-use Rattle.buffers.specs.declared.Made.{Made}
-use Rattle.buffers.specs.declared.Made.TheVariants.{Written, Refused}
+use Rattle.std.specs.Prelude.{Result, Ok, Err}
+use Rattle.leaves.specs.Faults.{number_of}
+use Rattle.leaves.specs.declared.refusals.Refusal.{Refusal}
 use Rattle.buffers.specs.Verdicts.{verdict_of}
 
 -- what is answered of a shape, by the verdict; one that is written fits
-abbrev pub Comes : Shape → ℕ → Made → Type 0
-Comes s room (Written n) = (made 0 s (in_room room (encode s)) ≡ answered (encode s)) × (n ≡ length (encode s)) × (n ≤ room) × (n ≤ max_bytes)
-Comes s room (Refused n p) = made 0 s (in_room room (encode s)) ≡ refused n p
+abbrev pub Comes : Shape → ℕ → Result ℕ Refusal → Type 0
+Comes s room (Ok n) = (made 0 s (in_room room (encode s)) ≡ answered (encode s)) × (n ≡ length (encode s)) × (n ≤ room) × (n ≤ max_bytes)
+Comes s room (Err r) = made 0 s (in_room room (encode s)) ≡ refused (number_of r.fault) r.place
 
 pub comes : (s : Shape) (l d room : ℕ) → min l (max_bytes + 1) ≡ min (length (encode s)) (max_bytes + 1) → min d (max_levels + 1) ≡ min (depth s) (max_levels + 1)
-    → {r : Made} → r ≡ verdict_of l d room → Comes s room r
+    → {r : Result ℕ Refusal} → r ≡ verdict_of l d room → Comes s room r
 unfolding verdict_of made in_room
 comes s l d room b v e =
     rw e

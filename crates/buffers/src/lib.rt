@@ -1,48 +1,42 @@
 // Bytes written into a lent buffer, from a place on, and whether a made shape can be.
 #![tactic(auto)]
 
-ghost use Rattle.std.specs.Prelude.{◌≡◌, ◌∷◌, [], ◌≤◌, ◌<◌, ◌+◌, ◌-◌, length};
-ghost use Rattle.std.proofs.Math.Seq.{slice};
+ghost use Rattle.std.specs.Prelude.{◌≡◌, ◌∷◌, [], ◌≤◌, ◌<◌, ◌+◌, length};
 ghost use Rattle.meaning.specs.Numbers.{two_bytes, leb128};
 ghost use Rattle.buffers.specs.Written.{written};
 ghost use Rattle.buffers.specs.Verdicts.{verdict_of};
 
 use leaves::limits::{MAX_BYTES, MAX_LEVELS};
-use leaves::refusals::{BUFFER_SHORT, MADE_TOO_DEEP, MADE_TOO_LONG};
-
-// What a call that writes into a lent buffer answers: how many bytes it wrote, or a refusal with its number and place.
-#[derive(Clone, Copy)]
-pub enum Made {
-    Written { length: usize },
-    Refused { number: usize, place: usize },
-}
+use leaves::refusals::{Fault, Refusal};
 
 // What a made shape of so many bytes and levels comes to in a lent buffer of so many bytes: its length, where it can be written, or the refusal.
-pub fn verdict(length: usize, depth: usize, room: usize) -> Made
+#[tactic(auto, using(meaning::proofs::Rules::tests), unfolding(crate::specs::Verdicts::verdict_of))]
+pub fn verdict(length: usize, depth: usize, room: usize) -> Result<usize, Refusal>
     ensures { result ≡ verdict_of length depth room }
 {
     if MAX_LEVELS < depth {
-        return Made::Refused {
-            number: MADE_TOO_DEEP,
+        return Err(Refusal {
+            fault: Fault::MadeTooDeep,
             place: 0,
-        };
+        });
     }
     if MAX_BYTES < length {
-        return Made::Refused {
-            number: MADE_TOO_LONG,
+        return Err(Refusal {
+            fault: Fault::MadeTooLong,
             place: 0,
-        };
+        });
     }
     if room < length {
-        return Made::Refused {
-            number: BUFFER_SHORT,
+        return Err(Refusal {
+            fault: Fault::BufferShort,
             place: length,
-        };
+        });
     }
-    Made::Written { length }
+    Ok(length)
 }
 
 // One byte.
+#[tactic(auto, using(crate::proofs::Written::written_one))]
 pub fn put_byte(out: &mut [u8], to: usize, b: u8)
     requires { to < length out.old }
     ensures { out.new ≡ written out.old to (b ∷ []) }
@@ -51,15 +45,16 @@ pub fn put_byte(out: &mut [u8], to: usize, b: u8)
 }
 
 // A number of two bytes, low first.
+#[tactic(auto, unfolding(crate::specs::Written::written, meaning::specs::Numbers::two_bytes))]
 pub fn put_two(out: &mut [u8], to: usize, n: usize)
     requires { (to + 2 ≤ length out.old) × (n < 65536) }
     ensures { out.new ≡ written out.old to (two_bytes n) }
 {
-    put_byte(out, to, (n % 256) as u8);
-    put_byte(out, to + 1, (n / 256) as u8);
+    out[to..to + 2].copy_from_slice(&(n as u16).to_le_bytes());
 }
 
 // A LEB128 number. The place after it.
+#[tactic(auto, using(crate::proofs::Written::written_after, meaning::proofs::Rules::tests), unfolding(meaning::specs::Numbers::leb128))]
 pub fn put_leb(out: &mut [u8], to: usize, n: usize) -> usize
     requires { (n < 16384) × (to + length (leb128 n) ≤ length out.old) }
     ensures after { result ≡ to + length (leb128 n) }
@@ -74,15 +69,11 @@ pub fn put_leb(out: &mut [u8], to: usize, n: usize) -> usize
     to + 2
 }
 
-// The bytes of a slice from a place up to another.
-pub fn put_part(out: &mut [u8], to: usize, s: &[u8], from: usize, end: usize)
-    requires { (from ≤ end) × (end ≤ length s.now) × (to + (end - from) ≤ length out.old) }
-    ensures { out.new ≡ written out.old to (slice from end s.now) }
+// All of a slice's bytes.
+#[tactic(auto, unfolding(crate::specs::Written::written))]
+pub fn put_bytes(out: &mut [u8], to: usize, bytes: &[u8])
+    requires { to + length bytes.now ≤ length out.old }
+    ensures { out.new ≡ written out.old to bytes.now }
 {
-    let size = end - from;
-    let mut i = 0;
-    while i < size {
-        out[to + i] = s[from + i];
-        i += 1;
-    }
+    out[to..to + bytes.len()].copy_from_slice(bytes);
 }

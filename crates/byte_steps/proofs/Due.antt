@@ -15,9 +15,12 @@ use borrow.Author.Tests.{ltb-true, ltb-false, eqb-true}
 use Rattle.meaning.specs.Refusals.{cut_short, unfinished}
 use Rattle.meaning.proofs.Rules.{facts, rule}
 use Rattle.leaves.proofs.Numbers.{steps, leb-steps}
-use Rattle.payloads.specs.declared.Text.TheVariants.{Whole, Bad}
-use Rattle.payloads.specs.Payload.{label_at, text_at, text_from, named}
-use Rattle.reader.specs.Walk.{stopped, walk_items, walk_shape, walk_all, shape_with, depths}
+use Rattle.std.specs.Prelude.{Ok, Err}
+use Rattle.leaves.specs.Faults.{fault_at}
+use Rattle.leaves.specs.declared.refusals.Fault.TheVariants.{NumberWrong}
+use Rattle.leaves.specs.declared.refusals.Refusal.{Refusal}
+use Rattle.payloads.specs.Payload.{text_of, label_at, text_at, text_from, named}
+use Rattle.reader.specs.Walk.{stopped_by, stopped, walk_items, walk_shape, walk_all, shape_with, depths}
 use Rattle.reader.proofs.Steps.{shape-by}
 use Rattle.byte_steps.specs.declared.modes.Items.{Items}
 use Rattle.byte_steps.specs.declared.modes.Items.TheVariants.{Plain, Bare, Fields, Texts}
@@ -68,11 +71,11 @@ module _ (s : List ℕ) where
   head-none left end at p = rw (shape-by depths left s end at, p)
 
   module _ (l : Level) (ls : List Level) (ds : List ℕ) (from stop due at : ℕ) where
-    pub texts-bad : (items : Items) (n p : ℕ) → named (kind_of items) ≡ true → text_at s stop at ≡ Bad n p → texts s (l ∷ ls) (level from stop due items) ds at ≡ stopped n p
+    pub texts-bad : (items : Items) (r : Refusal) → named (kind_of items) ≡ true → text_at s stop at ≡ Err r → texts s (l ∷ ls) (level from stop due items) ds at ≡ stopped_by r
     unfolding listed walk_items label_at
-    texts-bad items n p h e = rw (h, e)
+    texts-bad items r h e = rw (h, e)
 
-    pub texts-whole : (items : Items) (start next : ℕ) → named (kind_of items) ≡ true → text_at s stop at ≡ Whole start next
+    pub texts-whole : (items : Items) (start next : ℕ) → named (kind_of items) ≡ true → text_at s stop at ≡ Ok (text_of start next)
         → texts s (l ∷ ls) (level from stop due items) ds at ≡ worded s items (l ∷ ls) (level from stop due items) ds next
     unfolding listed walk_items label_at resume
     texts-whole Plain start next h e = absurd (false≢true h)
@@ -85,7 +88,7 @@ module _ (s : List ℕ) where
     -- no byte is left for a length
     pub texts-none : (items : Items) → named (kind_of items) ≡ true → stop ≤ length s → leb stop at ≡ true → texts s (l ∷ ls) (level from stop due items) ds at ≡ stopped unfinished at
     unfolding text_at text_from steps
-    texts-none items h k p = texts-bad items unfinished at h (rw (leb-steps s stop at k, p))
+    texts-none items h k p = texts-bad items (fault_at NumberWrong at) h (rw (leb-steps s stop at k, p))
 
   module _ {l : Level} {ls : List Level} {top : Level} {at whole deepest : ℕ}
       (short : length s < whole → walk_all depths s ≡ stopped cut_short 0) (nested : Nested (l ∷ ls) top whole) where

@@ -3,7 +3,7 @@
 --     fed-said      for any bytes: what reading means
 --     fed-parts     fed in parts, fed with the parts joined
 -- Assumes nothing.
-use mathlib.Core.Path.{◌≡◌, refl, ap, sym, ◌∙◌}
+use mathlib.Core.Path.{◌≡◌, refl, ap, ap₂, sym, ◌∙◌}
 use mathlib.Core.Bool.{Bool, true, false, not}
 use mathlib.Core.List.{List, [], ◌∷◌, ◌++◌}
 use Prim.Native.Nat.{ℕ, zero, suc, ◌+◌, ◌-◌, ◌≤◌, ◌<◌, max}
@@ -16,14 +16,18 @@ use borrow.Author.Tests.{ltb-true, ltb-false, leb-false, lt-leb, le-leb, lt-ltb,
 use Rattle.meaning.specs.Rules.{◌⇒◌∣◌}
 use Rattle.meaning.specs.Limits.{max_bytes, max_levels}
 use Rattle.meaning.specs.Refusals.{cut_short}
-use Rattle.meaning.specs.Reading.{reading}
+use Rattle.meaning.specs.Shape.{Shape, depth}
+use Rattle.meaning.specs.Encode.{encode}
+use Rattle.meaning.specs.Reading.{Reading, got, bad, reading}
+use Rattle.meaning.proofs.Window.{bytes-by-index}
+use Rattle.meaning.proofs.Laws.{encode-reading, nothing_left}
+use Rattle.reader.proofs.Folding.{fold-depth}
 use Rattle.meaning.proofs.Rules.{rule, both}
 use Rattle.payloads.specs.Payload.{opening_at}
 use Rattle.payloads.specs.declared.first.Kind.{Kind}
 use Rattle.payloads.specs.declared.first.Kind.TheVariants.{Array, Map, Record, Function, Symbol, Variable}
-use Rattle.reader.specs.Said.{said}
-use Rattle.reader.specs.Walk.{stopped, walk_shape, walk_all, depths}
-use Rattle.reader.proofs.Whole.{judged, walk-said}
+use Rattle.reader.specs.Walk.{Out, came, stopped, walk_shape, walk_all, depths}
+use Rattle.reader.proofs.Whole.{made_from, walk-reading}
 use Rattle.byte_steps.specs.declared.modes.Items.{Items}
 use Rattle.byte_steps.specs.declared.modes.Items.TheVariants.{Plain, Bare, Fields, Texts}
 use Rattle.byte_steps.specs.declared.modes.Level.{Level}
@@ -268,9 +272,20 @@ fed-walk s = go (ltb max_bytes (length s)) refl
     go false p = few-walk s (ltb-false _ _ p)
     go true p = too_long s (ltb-true _ _ p)
 
--- For any bytes it says what reading means.
-pub fed-said : (s : List ℕ) → ((i : ℕ) → get_or s i 0 < 256) → judged (finish (fed start s)) ≡ said (reading s)
-fed-said s b = ap judged (fed-walk s) ∙ walk-said s b
+-- what reading means, as the finish says it
+abbrev pub read_out : Reading Shape → Out ℕ
+read_out (got t w) = came (length (encode t)) (depth t)
+read_out (bad number place) = stopped number place
+
+-- For any bytes it says that.
+pub fed-said : (s : List ℕ) → ((i : ℕ) → get_or s i 0 < 256) → finish (fed start s) ≡ read_out (reading s)
+fed-said s b = fed-walk s ∙ walk-reading depths s ∙ go (reading s) refl
+  where
+    go : (r : Reading Shape) → reading s ≡ r → made_from depths (length s) r ≡ read_out r
+    go (got t w) p =
+        let z = nothing_left s t w p in let l = ap length (encode-reading s t w (bytes-by-index s b) p).0 in
+        rw z (ap₂ came (omega arith) (fold-depth t))
+    go (bad number place) p = refl
 
 -- Fed in parts or with the parts joined is the same.
 pub fed-parts : (r : Run) (u v : List ℕ) → fed (fed r u) v ≡ fed r (u ++ v)

@@ -17,7 +17,9 @@ use Rattle.payloads.specs.Payload.{primitive, primitive_at, opening_at}
 use Rattle.payloads.specs.declared.first.Kind.{Kind}
 use Rattle.payloads.specs.declared.first.First.{First}
 use Rattle.payloads.specs.declared.first.First.TheVariants.{Short, Long}
-use Rattle.payloads.specs.declared.Opening.TheVariants.{Closed}
+use Rattle.std.specs.Prelude.{Err}
+use Rattle.leaves.specs.Faults.{fault_at}
+use Rattle.leaves.specs.declared.refusals.Fault.TheVariants.{CutShort}
 use Rattle.reader.specs.Walk.{stopped, after, after_opening, by_first, walk_shape, walk_all, shape_with, depths}
 use Rattle.reader.proofs.Steps.{below, shape-by, shape-more}
 use Rattle.reader.proofs.Firsts.{ToldFirst, none, one, two, more, first-told}
@@ -102,7 +104,7 @@ module _ (s : List ℕ) where
         }
 
     -- the size passes the window
-    cut : (stack : List Level) (kind : Kind) → Room s stack top at 1 whole → top.stop < at + 3 → opening_at s (window s stack top) at kind ≡ Closed cut_short at
+    cut : (stack : List Level) (kind : Kind) → Room s stack top at 1 whole → top.stop < at + 3 → opening_at s (window s stack top) at kind ≡ Err (fault_at CutShort at)
     unfolding opening_at
     cut [] kind r h = absurd (omega arith)
     cut (m ∷ ls) kind r h = rw (lt-ltb (top.stop - at) 3 (omega arith))

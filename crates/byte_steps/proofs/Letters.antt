@@ -15,21 +15,21 @@ use Rattle.meaning.specs.Rules.{◌⇒◌∣◌}
 use Rattle.meaning.specs.Utf8.{goes_on, size_with, char_size, well_formed, utf8}
 use Rattle.meaning.proofs.Rules.{facts, both}
 use Rattle.leaves.proofs.Text.{goes-short, well-on, well-stop}
-use Rattle.byte_steps.specs.declared.Char.{Char}
-use Rattle.byte_steps.specs.declared.Char.TheVariants.{Wrong, Goes}
-use Rattle.byte_steps.specs.Automaton.{char_first, char_taken}
+use Rattle.std.specs.Prelude.{Option, Some, None}
+use Rattle.byte_steps.specs.declared.Asked.{Asked}
+use Rattle.byte_steps.specs.Automaton.{asks, char_first, char_taken}
 
 -- the bytes go on with so many of a character, and are UTF-8 then
 abbrev pub goes : ℕ → ℕ → ℕ → List ℕ → Bool
 goes more low high w = goes_on more low high w ⇒ utf8 (drop more w) ∣ λ _. false
 
-abbrev pub char_says : Char → List ℕ → Bool
-char_says Wrong w = false
-char_says (Goes more low high) w = goes more low high w
+abbrev pub char_says : Option Asked → List ℕ → Bool
+char_says None w = false
+char_says (Some c) w = goes c.more c.low c.high w
 
-abbrev size_of : Char → List ℕ → ℕ
-size_of Wrong w = 0
-size_of (Goes more low high) w = size_with more low high w
+abbrev size_of : Option Asked → List ℕ → ℕ
+size_of None w = 0
+size_of (Some c) w = size_with c.more c.low c.high w
 
 pub first-size : (b : ℕ) (w : List ℕ) → char_size (b ∷ w) ≡ size_of (char_first b) w
 unfolding char_size char_first goes_on
@@ -45,7 +45,7 @@ first-size b w =
     both R (eqb b 244) _ _ _ _ (λ _. refl) λ _.
     refl
   where
-    R : ℕ → Char → Type 0
+    R : ℕ → Option Asked → Type 0
     R n c = n ≡ size_of c w
 
 -- no character there: no UTF-8
@@ -80,9 +80,9 @@ utf8-with b m low high w h = go (goes_on m low high w) refl
 pub utf8-first : (b : ℕ) (w : List ℕ) → utf8 (b ∷ w) ≡ char_says (char_first b) w
 utf8-first b w = go (char_first b) refl
   where
-    go : (c : Char) → char_first b ≡ c → utf8 (b ∷ w) ≡ char_says c w
-    go Wrong e = none-there b w (first-size b w ∙ ap (λ c. size_of c w) e)
-    go (Goes m low high) e = utf8-with b m low high w (first-size b w ∙ ap (λ c. size_of c w) e)
+    go : (c : Option Asked) → char_first b ≡ c → utf8 (b ∷ w) ≡ char_says c w
+    go None e = none-there b w (first-size b w ∙ ap (λ c. size_of c w) e)
+    go (Some a) e = utf8-with b a.more a.low a.high w (first-size b w ∙ ap (λ c. size_of c w) e)
 
 -- a byte of a text
 pub char-step : (m low high b : ℕ) (w : List ℕ) → goes m low high (b ∷ w) ≡ char_says (char_taken m low high b) w
@@ -94,9 +94,9 @@ char-step (suc m) low high b w =
     both R (ltb high b) _ _ _ _ (λ _. refl) λ _.
     last m)
   where
-    R : Bool → Char → Type 0
+    R : Bool → Option Asked → Type 0
     R t c = (t ⇒ utf8 (drop m w) ∣ λ _. false) ≡ char_says c w
 
-    last : (k : ℕ) → (goes_on k 128 191 w ⇒ utf8 (drop k w) ∣ λ _. false) ≡ char_says (eqb (suc k) 1 ⇒ Goes 0 0 0 ∣ λ _. Goes k 128 191) w
+    last : (k : ℕ) → (goes_on k 128 191 w ⇒ utf8 (drop k w) ∣ λ _. false) ≡ char_says (eqb (suc k) 1 ⇒ asks 0 0 0 ∣ λ _. asks k 128 191) w
     last zero = refl
     last (suc k) = rw (ne_eqb (suc (suc k)) 1 (λ q. absurd (omega arith)))

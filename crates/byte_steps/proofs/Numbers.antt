@@ -12,8 +12,10 @@ use Rattle.meaning.specs.Rules.{◌⇒◌∣◌}
 use Rattle.meaning.specs.Refusals.{unfinished, over_two_bytes, not_shortest, long_form}
 use Rattle.meaning.specs.FirstByte.{short_blanks}
 use Rattle.meaning.proofs.Rules.{facts, rule}
-use Rattle.leaves.specs.Leb.{leb_at}
-use Rattle.leaves.specs.declared.Leb.TheVariants.{Number, Fault}
+use Rattle.std.specs.Prelude.{Ok, Err}
+use Rattle.leaves.specs.Faults.{fault_at}
+use Rattle.leaves.specs.declared.refusals.Fault.TheVariants.{NumberWrong}
+use Rattle.leaves.specs.Leb.{leb_of, leb_at}
 use Rattle.leaves.proofs.Numbers.{steps, leb-steps}
 use Rattle.payloads.specs.Payload.{counted_at, counted_by, short_form_of, small_at}
 use Rattle.payloads.specs.declared.first.Kind.TheVariants.{Variable}
@@ -92,24 +94,24 @@ module _ (s : List ℕ) where
 
   -- a LEB128 number by its bytes
   module _ (stop at : ℕ) (k : stop ≤ length s) where
-    pub leb-one : at < stop → ltb (get_or s at 0) 128 ≡ true → leb_at s stop at ≡ Number (get_or s at 0) (at + 1)
+    pub leb-one : at < stop → ltb (get_or s at 0) 128 ≡ true → leb_at s stop at ≡ Ok (leb_of (get_or s at 0) (at + 1))
     unfolding steps
     leb-one h p = rw (leb-steps s stop at k, lt-leb stop at h, p)
 
-    pub leb-cut : at < stop → ltb (get_or s at 0) 128 ≡ false → leb stop (at + 1) ≡ true → leb_at s stop at ≡ Fault unfinished
+    pub leb-cut : at < stop → ltb (get_or s at 0) 128 ≡ false → leb stop (at + 1) ≡ true → leb_at s stop at ≡ Err (fault_at NumberWrong at)
     unfolding steps
     leb-cut h p q = rw (leb-steps s stop at k, lt-leb stop at h, p, q)
 
-    pub leb-over : at + 1 < stop → ltb (get_or s at 0) 128 ≡ false → leb 128 (get_or s (at + 1) 0) ≡ true → leb_at s stop at ≡ Fault over_two_bytes
+    pub leb-over : at + 1 < stop → ltb (get_or s at 0) 128 ≡ false → leb 128 (get_or s (at + 1) 0) ≡ true → leb_at s stop at ≡ Err (fault_at NumberWrong at)
     unfolding steps
     leb-over h p q = rw (leb-steps s stop at k, lt-leb stop at (omega arith), p, lt-leb stop (at + 1) h, q)
 
-    pub leb_long : at + 1 < stop → ltb (get_or s at 0) 128 ≡ false → leb 128 (get_or s (at + 1) 0) ≡ false → eqb (get_or s (at + 1) 0) 0 ≡ true → leb_at s stop at ≡ Fault not_shortest
+    pub leb_long : at + 1 < stop → ltb (get_or s at 0) 128 ≡ false → leb 128 (get_or s (at + 1) 0) ≡ false → eqb (get_or s (at + 1) 0) 0 ≡ true → leb_at s stop at ≡ Err (fault_at NumberWrong at)
     unfolding steps
     leb_long h p q r = rw (leb-steps s stop at k, lt-leb stop at (omega arith), p, lt-leb stop (at + 1) h, q, r)
 
     pub leb-two : at + 1 < stop → ltb (get_or s at 0) 128 ≡ false → leb 128 (get_or s (at + 1) 0) ≡ false → eqb (get_or s (at + 1) 0) 0 ≡ false
-        → leb_at s stop at ≡ Number (get_or s at 0 % 128 + 128 * get_or s (at + 1) 0) (at + 2)
+        → leb_at s stop at ≡ Ok (leb_of (get_or s at 0 % 128 + 128 * get_or s (at + 1) 0) (at + 2))
     unfolding steps
     leb-two h p q r = rw (leb-steps s stop at k, lt-leb stop at (omega arith), p, lt-leb stop (at + 1) h, q, r)
 
@@ -122,11 +124,11 @@ module _ (s : List ℕ) where
 
   -- a list's count
   module _ (l : Level) (ls : List Level) (top : Level) (ds : List ℕ) (at : ℕ) where
-    counts-fault : (n : ℕ) → leb_at s top.stop at ≡ Fault n → counts s (l ∷ ls) top ds at ≡ stopped n at
+    counts-fault : leb_at s top.stop at ≡ Err (fault_at NumberWrong at) → counts s (l ∷ ls) top ds at ≡ stopped unfinished at
     unfolding counted_at counted_by
-    counts-fault n e = rw e
+    counts-fault e = rw e
 
-    counts-number : (v next : ℕ) → plain top.items ≡ false → leb_at s top.stop at ≡ Number v next → counts s (l ∷ ls) top ds at ≡ resume s (l ∷ ls) (with_due top (v + more top.items)) ds next
+    counts-number : (v next : ℕ) → plain top.items ≡ false → leb_at s top.stop at ≡ Ok (leb_of v next) → counts s (l ∷ ls) top ds at ≡ resume s (l ∷ ls) (with_due top (v + more top.items)) ds next
     unfolding counted_at counted_by resume listed
     counts-number v next p e =
         rw (e, p, prims-none s (v + more top.items) top.stop next)
@@ -160,7 +162,7 @@ module _ (s : List ℕ) where
       })
       go false p = rw p
           (rule (λ m. Good s m (l ∷ ls) top (at + 1) whole deepest) (leb top.stop (at + 1)) _ _
-          (λ q. stands s g refl λ w ds i. i ∙ counts-fault l ls top ds at unfinished (leb-cut top.stop at (in-s w) (omega (arith, g.fits.0)) p q))
+          (λ q. stands s g refl λ w ds i. i ∙ counts-fault l ls top ds at (leb-cut top.stop at (in-s w) (omega (arith, g.fits.0)) p q))
           λ q. record {
             short = g.short;
             held = λ w. let h = g.held w in record { ds = h.ds; is = h.is; deep = h.deep };
@@ -174,9 +176,9 @@ module _ (s : List ℕ) where
   count-more from low [] top at whole deepest g = absurd g.fits.1
   count-more from low (l ∷ ls) top at whole deepest g =
       rule P (leb 128 (get_or s at 0)) _ _
-      (λ p. stands s g refl λ w ds i. i ∙ counts-fault l ls top ds from over_two_bytes (leb-over top.stop from (in-s w) room first (rw here at p)))
+      (λ p. stands s g refl λ w ds i. i ∙ counts-fault l ls top ds from (leb-over top.stop from (in-s w) room first (rw here at p)))
       λ p. rule P (eqb (get_or s at 0) 0) _ _
-      (λ q. stands s g refl λ w ds i. i ∙ counts-fault l ls top ds from not_shortest (leb_long top.stop from (in-s w) room first (rw here at p) (rw here at q)))
+      (λ q. stands s g refl λ w ds i. i ∙ counts-fault l ls top ds from (leb_long top.stop from (in-s w) room first (rw here at p) (rw here at q)))
       λ q. record {
         short = g.short;
         held = λ w. let h = g.held w in record {

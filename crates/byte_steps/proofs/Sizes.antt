@@ -14,7 +14,9 @@ use Rattle.meaning.specs.Refusals.{cut_short}
 use Rattle.meaning.proofs.Rules.{facts, rule}
 use Rattle.leaves.proofs.Numbers.{steps, leb-steps}
 use Rattle.payloads.specs.Payload.{primitive_at, opening_at, list_of, counted_at, counted_by, size_at, short_form_of, label_at}
-use Rattle.payloads.specs.declared.Opening.TheVariants.{Closed}
+use Rattle.std.specs.Prelude.{Err}
+use Rattle.leaves.specs.Faults.{fault_at}
+use Rattle.leaves.specs.declared.refusals.Fault.TheVariants.{CutShort}
 use Rattle.payloads.specs.declared.first.Kind.{Kind}
 use Rattle.payloads.specs.declared.first.Kind.TheVariants.{Array, Map, Record, Function, Symbol, Variable}
 use Rattle.reader.specs.Walk.{stopped, after, after_opening, closing, walk_items, walk_shape, walk_all, depths}
@@ -38,10 +40,10 @@ two-prims false q = refl
 
 module _ (s : List ℕ) (few : length s ≤ max_bytes) where
   -- the payload passes the window, or lies in it
-  cut : (end from : ℕ) (kind : Kind) → end < from + 3 + size_at s (from + 1) → opening_at s end from kind ≡ Closed cut_short from
+  cut : (end from : ℕ) (kind : Kind) → end < from + 3 + size_at s (from + 1) → opening_at s end from kind ≡ Err (fault_at CutShort from)
   unfolding opening_at
   cut end from kind h =
-      rule (λ o. o ≡ Closed cut_short from) (ltb (end - from) 3) _ _ (λ _. refl) λ p.
+      rule (λ o. o ≡ Err (fault_at CutShort from)) (ltb (end - from) 3) _ _ (λ _. refl) λ p.
       rw (lt-ltb (end - from - 3) (size_at s (from + 1)) (omega (arith, facts)))
 
   fit : (end from : ℕ) (kind : Kind) → from + 3 + size_at s (from + 1) ≤ end → opening_at s end from kind ≡ list_of s from (from + 3) (from + 3 + size_at s (from + 1)) kind

@@ -14,15 +14,16 @@ use Rattle.meaning.specs.Refusals.{cut_short, unfinished, over_two_bytes, not_sh
 use Rattle.meaning.specs.Utf8.{utf8, goes_on, well_formed, chars_size}
 use Rattle.meaning.proofs.Rules.{facts, rule}
 use Rattle.meaning.proofs.Window.{window-none, window-some}
-use Rattle.leaves.specs.Leb.{leb_at}
-use Rattle.leaves.specs.declared.Leb.TheVariants.{Number, Fault}
+use Rattle.std.specs.Prelude.{Option, Some, None, Ok, Err}
+use Rattle.leaves.specs.Faults.{fault_at}
+use Rattle.leaves.specs.declared.refusals.Fault.TheVariants.{CutShort, NumberWrong, NotUtf8}
+use Rattle.leaves.specs.Leb.{leb_of, leb_at}
 use Rattle.payloads.specs.Payload.{text_at, text_from, named}
 use Rattle.reader.specs.Walk.{Out, stopped, walk_all, depths}
 use Rattle.byte_steps.specs.declared.modes.Items.{Items}
 use Rattle.byte_steps.specs.declared.modes.Items.TheVariants.{Plain, Bare, Fields, Texts}
 use Rattle.byte_steps.specs.declared.modes.Level.{Level}
-use Rattle.byte_steps.specs.declared.Char.{Char}
-use Rattle.byte_steps.specs.declared.Char.TheVariants.{Wrong, Goes}
+use Rattle.byte_steps.specs.declared.Asked.{Asked}
 use Rattle.byte_steps.specs.declared.modes.Mode.{Mode}
 use Rattle.byte_steps.specs.declared.modes.Mode.TheVariants as Now
 use Rattle.byte_steps.specs.Automaton.{level, leb_first, leb_second, text_due, text_done, text_taken, char_taken}
@@ -57,22 +58,22 @@ module _ (s : List ℕ) where
 
   -- an item whose text's length is read
   module _ (l : Level) (ls : List Level) (top : Level) (ds : List ℕ) (at : ℕ) (n : named (kind_of top.items) ≡ true) where
-    texts-fault : (k : ℕ) → leb_at s top.stop at ≡ Fault k → texts s (l ∷ ls) top ds at ≡ stopped k at
+    texts-fault : leb_at s top.stop at ≡ Err (fault_at NumberWrong at) → texts s (l ∷ ls) top ds at ≡ stopped unfinished at
     unfolding text_at text_from
-    texts-fault k e = texts-bad s l ls ds top.at top.stop top.due at top.items k at n (rw e)
+    texts-fault e = texts-bad s l ls ds top.at top.stop top.due at top.items (fault_at NumberWrong at) n (rw e)
 
-    texts-cut : (size start : ℕ) → leb_at s top.stop at ≡ Number size start → top.stop - start < size → texts s (l ∷ ls) top ds at ≡ stopped cut_short at
+    texts-cut : (size start : ℕ) → leb_at s top.stop at ≡ Ok (leb_of size start) → top.stop - start < size → texts s (l ∷ ls) top ds at ≡ stopped cut_short at
     unfolding text_at text_from
-    texts-cut size start e h = texts-bad s l ls ds top.at top.stop top.due at top.items cut_short at n (rw (e, lt-ltb (top.stop - start) size h))
+    texts-cut size start e h = texts-bad s l ls ds top.at top.stop top.due at top.items (fault_at CutShort at) n (rw (e, lt-ltb (top.stop - start) size h))
 
-    texts-letters : (size start : ℕ) → leb_at s top.stop at ≡ Number size start → size ≤ top.stop - start
+    texts-letters : (size start : ℕ) → leb_at s top.stop at ≡ Ok (leb_of size start) → size ≤ top.stop - start
         → texts s (l ∷ ls) top ds at ≡ (utf8 (slice start (start + size) s) ⇒ worded s top.items (l ∷ ls) top ds (start + size) ∣ λ _. stopped not_utf8 start)
     unfolding text_at text_from
     texts-letters size start e h = go (utf8 (slice start (start + size) s)) refl
       where
         go : (t : Bool) → utf8 (slice start (start + size) s) ≡ t → texts s (l ∷ ls) top ds at ≡ (utf8 (slice start (start + size) s) ⇒ worded s top.items (l ∷ ls) top ds (start + size) ∣ λ _. stopped not_utf8 start)
         go true p = rw p (texts-whole s l ls ds top.at top.stop top.due at top.items start (start + size) n (rw (e, le-ltb (top.stop - start) size h, p)))
-        go false p = rw p (texts-bad s l ls ds top.at top.stop top.due at top.items not_utf8 start n (rw (e, le-ltb (top.stop - start) size h, p)))
+        go false p = rw p (texts-bad s l ls ds top.at top.stop top.due at top.items (fault_at NotUtf8 start) n (rw (e, le-ltb (top.stop - start) size h, p)))
 
   empty-text : (start : ℕ) → utf8 (slice start (start + 0) s) ≡ true
   unfolding well_formed chars_size
@@ -81,7 +82,7 @@ module _ (s : List ℕ) where
   -- a text of so many bytes is due
   text-due : (l : Level) (ls : List Level) (top : Level) (at from size whole deepest : ℕ) → named (kind_of top.items) ≡ true → from ≤ top.stop
       → (length s < whole → walk_all depths s ≡ stopped cut_short 0) → Nested (l ∷ ls) top whole
-      → (whole ≤ length s → (leb_at s top.stop at ≡ Number size from) × Says (l ∷ ls) deepest (λ ds. texts s (l ∷ ls) top ds at))
+      → (whole ≤ length s → (leb_at s top.stop at ≡ Ok (leb_of size from)) × Says (l ∷ ls) deepest (λ ds. texts s (l ∷ ls) top ds at))
       → Good s (text_due top at from size) (l ∷ ls) top from whole deepest
   unfolding text_due meant Fits goes_on
   text-due l ls top at from size whole deepest n i short nested f =
@@ -129,7 +130,7 @@ module _ (s : List ℕ) where
       let h = g.held w in
       (leb-one s top.stop at (in-s w) (omega (arith, g.fits.0)) p, record { ds = h.ds; is = h.is; deep = h.deep }))
       λ p. rule P (leb top.stop (at + 1)) _ _
-      (λ q. stands s g refl λ w ds i. i ∙ texts-fault l ls top ds at g.fits.1 unfinished (leb-cut s top.stop at (in-s w) (omega (arith, g.fits.0)) p q))
+      (λ q. stands s g refl λ w ds i. i ∙ texts-fault l ls top ds at g.fits.1 (leb-cut s top.stop at (in-s w) (omega (arith, g.fits.0)) p q))
       λ q. record {
         short = g.short;
         held = λ w. let h = g.held w in record { ds = h.ds; is = h.is; deep = h.deep };
@@ -149,9 +150,9 @@ module _ (s : List ℕ) where
   length_more_lem from low [] top at whole deepest g = absurd g.fits.1
   length_more_lem from low (l ∷ ls) top at whole deepest g =
       rule P (leb 128 (get_or s at 0)) _ _
-      (λ p. stands s g refl λ w ds i. i ∙ texts-fault l ls top ds from g.fits.4 over_two_bytes (leb-over s top.stop from (in-s w) room first (rw here at p)))
+      (λ p. stands s g refl λ w ds i. i ∙ texts-fault l ls top ds from g.fits.4 (leb-over s top.stop from (in-s w) room first (rw here at p)))
       λ p. rule P (eqb (get_or s at 0) 0) _ _
-      (λ q. stands s g refl λ w ds i. i ∙ texts-fault l ls top ds from g.fits.4 not_shortest (leb_long s top.stop from (in-s w) room first (rw here at p) (rw here at q)))
+      (λ q. stands s g refl λ w ds i. i ∙ texts-fault l ls top ds from g.fits.4 (leb_long s top.stop from (in-s w) room first (rw here at p) (rw here at q)))
       λ q. text-due l ls top from (at + 1) (low % 128 + 128 * get_or s at 0) whole deepest g.fits.4 g.fits.1 g.short g.nested λ w.
       let h = g.held w in
       (leb-two s top.stop from (in-s w) room first (rw here at p) (rw here at q) ∙ rw (← here, ← g.fits.2, next), record { ds = h.ds; is = h.is; deep = h.deep })
@@ -198,30 +199,30 @@ module _ (s : List ℕ) where
       in-s w = let k = nested-le l ls top whole g.nested in omega (arith, g.fits.1)
 
       -- what the bytes after this one say
-      says : (c : Char) → char_taken m low high (get_or s at 0) ≡ c → whole ≤ length s → goes m low high (slice at (at + left) s) ≡ char_says c (slice (at + 1) (at + left) s)
+      says : (c : Option Asked) → char_taken m low high (get_or s at 0) ≡ c → whole ≤ length s → goes m low high (slice at (at + left) s) ≡ char_says c (slice (at + 1) (at + left) s)
       says c e w =
           ap (goes m low high) (window-some s at (at + left) (omega (arith, g.fits.0)) (in-s w))
           ∙ char-step m low high (get_or s at 0) (slice (at + 1) (at + left) s)
           ∙ ap (λ c. char_says c (slice (at + 1) (at + left) s)) e
 
-      go : (c : Char) → char_taken m low high (get_or s at 0) ≡ c → P (text_taken top from left (at + 1) c)
-      go Wrong e = stands s g refl λ w ds i. i ∙ rw (says Wrong e w)
-      go (Goes m' low' high') e =
+      go : (c : Option Asked) → char_taken m low high (get_or s at 0) ≡ c → P (text_taken top from left (at + 1) c)
+      go None e = stands s g refl λ w ds i. i ∙ rw (says None e w)
+      go (Some c) e =
           rule P (leb left 1) _ _
           (λ p.
           let z : at + left ≡ at + 1 = omega (arith, facts, g.fits.0) in
-          rule P (eqb m' 0) _ _
+          rule P (eqb c.more 0) _ _
           (λ q. text-done l ls top.at top.stop top.due top.items (at + 1) whole deepest g.short g.nested (omega (arith, g.fits.1)) λ w. let h = g.held w in record {
             ds = h.ds;
-            is = h.is ∙ rw (says (Goes m' low' high') e w, z, window-none s (at + 1) (at + 1) (omega arith), goes_over m' low' high' q);
+            is = h.is ∙ rw (says (Some c) e w, z, window-none s (at + 1) (at + 1) (omega arith), goes_over c.more c.low c.high q);
             deep = h.deep;
           })
-          (λ q. stands s g refl λ w ds i. i ∙ rw (says (Goes m' low' high') e w, z, window-none s (at + 1) (at + 1) (omega arith), goes-not m' low' high' q)))
+          (λ q. stands s g refl λ w ds i. i ∙ rw (says (Some c) e w, z, window-none s (at + 1) (at + 1) (omega arith), goes-not c.more c.low c.high q)))
           λ p.
           let z : at + left ≡ at + 1 + (left - 1) = omega (arith, facts) in
           record {
             short = g.short;
-            held = λ w. let h = g.held w in record { ds = h.ds; is = h.is ∙ rw (says (Goes m' low' high') e w, z); deep = h.deep };
+            held = λ w. let h = g.held w in record { ds = h.ds; is = h.is ∙ rw (says (Some c) e w, z); deep = h.deep };
             nested = g.nested;
             fits = (omega (arith, facts), omega (arith, facts, g.fits.1));
           }

@@ -1,5 +1,5 @@
 -- NOT TO BE BELIEVED: proved equal to reading (proofs/Fed.antt). A reader that is fed byte by byte: what its state is, and what a byte and the finish do.
-use Rattle.std.specs.Prelude.{ℕ, ◌+◌, ◌*◌, ◌-◌, ◌%◌, max, List, [], ◌∷◌, Bool, true, false, not, length, ltb, leb, eqb}
+use Rattle.std.specs.Prelude.{ℕ, ◌+◌, ◌*◌, ◌-◌, ◌%◌, max, List, [], ◌∷◌, Bool, true, false, not, length, ltb, leb, eqb, Option, Some, None}
 use Rattle.meaning.specs.Rules.{◌⇒◌∣◌}
 use Rattle.meaning.specs.Limits.{max_bytes, max_levels}
 use Rattle.meaning.specs.Refusals.{cut_short, not_assigned, size_wrong, unfinished, over_two_bytes, not_shortest, not_utf8, long_form, too_deep, input_too_long}
@@ -17,8 +17,7 @@ use Rattle.byte_steps.specs.declared.modes.Level.{Level}
 use Rattle.byte_steps.specs.declared.modes.Mode.{Mode}
 use Rattle.byte_steps.specs.declared.modes.Mode.TheVariants.{Head, SizeLow, SizeHigh, Opening, Count, CountMore, Length, LengthMore, Letters, BlankLow, BlankHigh, Between, Done, Faulty}
 use Rattle.byte_steps.specs.declared.Took.{Took}
-use Rattle.byte_steps.specs.declared.Char.{Char}
-use Rattle.byte_steps.specs.declared.Char.TheVariants.{Wrong, Goes}
+use Rattle.byte_steps.specs.declared.Asked.{Asked}
 
 abbrev pub took : Mode → Level → ℕ → Took
 took m l d = record { mode = m; top = l; deepest = d }
@@ -86,33 +85,37 @@ text_due top at from size =
     eqb size 0 ⇒ text_done top.items top from ∣ λ _.
     Letters from size 0 0 0
 
--- RFC 3629, section 4: what a character's first byte asks for
-unfoldable pub char_first : ℕ → Char
-char_first b =
-    ltb b 128 ⇒ Goes 0 0 0 ∣ λ _.
-    ltb b 194 ⇒ Wrong ∣ λ _.
-    ltb b 224 ⇒ Goes 1 128 191 ∣ λ _.
-    eqb b 224 ⇒ Goes 2 160 191 ∣ λ _.
-    eqb b 237 ⇒ Goes 2 128 159 ∣ λ _.
-    ltb b 240 ⇒ Goes 2 128 191 ∣ λ _.
-    eqb b 240 ⇒ Goes 3 144 191 ∣ λ _.
-    ltb b 244 ⇒ Goes 3 128 191 ∣ λ _.
-    eqb b 244 ⇒ Goes 3 128 143 ∣ λ _.
-    Wrong
+-- so many bytes of a character are asked for yet, the first of them from low to high
+abbrev pub asks : ℕ → ℕ → ℕ → Option Asked
+asks more low high = Some (record { more = more; low = low; high = high })
 
-unfoldable pub char_taken : ℕ → ℕ → ℕ → ℕ → Char
+-- RFC 3629, section 4: what a character's first byte asks for
+unfoldable pub char_first : ℕ → Option Asked
+char_first b =
+    ltb b 128 ⇒ asks 0 0 0 ∣ λ _.
+    ltb b 194 ⇒ None ∣ λ _.
+    ltb b 224 ⇒ asks 1 128 191 ∣ λ _.
+    eqb b 224 ⇒ asks 2 160 191 ∣ λ _.
+    eqb b 237 ⇒ asks 2 128 159 ∣ λ _.
+    ltb b 240 ⇒ asks 2 128 191 ∣ λ _.
+    eqb b 240 ⇒ asks 3 144 191 ∣ λ _.
+    ltb b 244 ⇒ asks 3 128 191 ∣ λ _.
+    eqb b 244 ⇒ asks 3 128 143 ∣ λ _.
+    None
+
+unfoldable pub char_taken : ℕ → ℕ → ℕ → ℕ → Option Asked
 char_taken more low high b =
     eqb more 0 ⇒ char_first b ∣ λ _.
-    ltb b low ⇒ Wrong ∣ λ _.
-    ltb high b ⇒ Wrong ∣ λ _.
-    eqb more 1 ⇒ Goes 0 0 0 ∣ λ _.
-    Goes (more - 1) 128 191
+    ltb b low ⇒ None ∣ λ _.
+    ltb high b ⇒ None ∣ λ _.
+    eqb more 1 ⇒ asks 0 0 0 ∣ λ _.
+    asks (more - 1) 128 191
 
-unfoldable pub text_taken : Level → ℕ → ℕ → ℕ → Char → Mode
-text_taken top from left next Wrong = Faulty not_utf8 from
-text_taken top from left next (Goes more low high) =
-    leb left 1 ⇒ (eqb more 0 ⇒ text_done top.items top next ∣ λ _. Faulty not_utf8 from) ∣ λ _.
-    Letters from (left - 1) more low high
+unfoldable pub text_taken : Level → ℕ → ℕ → ℕ → Option Asked → Mode
+text_taken top from left next None = Faulty not_utf8 from
+text_taken top from left next (Some c) =
+    leb left 1 ⇒ (eqb c.more 0 ⇒ text_done top.items top next ∣ λ _. Faulty not_utf8 from) ∣ λ _.
+    Letters from (left - 1) c.more c.low c.high
 
 -- a LEB128 number's byte: over where it is whole
 unfoldable pub leb_first : Level → ℕ → ℕ → Mode → Mode → Mode
@@ -199,6 +202,20 @@ plain Plain = true
 plain Bare = false
 plain Fields = false
 plain Texts = false
+
+-- the items are shapes, in a list without a short form
+abbrev pub bare : Items → Bool
+bare Plain = false
+bare Bare = true
+bare Fields = false
+bare Texts = false
+
+-- the items have texts
+abbrev pub named : Items → Bool
+named Plain = false
+named Bare = false
+named Fields = true
+named Texts = true
 
 -- an item is read to its end: the next is due, or its payload ends, and so on outwards
 unfoldable pub settle : List Level → Level → ℕ → ℕ → ℕ → Run

@@ -1,8 +1,11 @@
 // What a reader that is fed is in the middle of: the payload in hand, and what the next byte is.
-ghost use Rattle.std.specs.Prelude.{◌≡◌, max};
-ghost use Rattle.byte_steps.specs.Automaton.{no_primitive, plain, unplain, with_due};
+ghost use Rattle.std.specs.Prelude.{◌≡◌, ◌≤◌};
+ghost use Rattle.byte_steps.specs.Automaton.{bare, more, named, no_primitive, plain, unplain, with_due};
+ghost use Rattle.leaves.specs.Faults.{number_of};
+ghost use Rattle.byte_steps.specs.declared.modes.Mode.TheVariants.{Faulty};
 
 use leaves::limits::{MAX_BYTES, MAX_LEVELS};
+use leaves::refusals::Fault;
 use payloads::first::Kind;
 
 // The levels and the bytes of an encoding, at most, as the state has its numbers.
@@ -19,6 +22,50 @@ pub enum Items {
     Texts,
 }
 
+impl Items {
+    // Whether all items so far are primitives, in a list that would have a short form then.
+    pub fn is_plain(self) -> bool
+        ensures { result ≡ plain self }
+    {
+        matches!(self, Items::Plain)
+    }
+
+    // Whether the items are shapes, in a list without a short form.
+    pub fn is_bare(self) -> bool
+        ensures { result ≡ bare self }
+    {
+        matches!(self, Items::Bare)
+    }
+
+    // Whether the items have texts.
+    pub fn is_named(self) -> bool
+        ensures { result ≡ named self }
+    {
+        matches!(self, Items::Fields | Items::Texts)
+    }
+
+    // A list one of whose items is no primitive has no short form.
+    fn unplain(self) -> Items
+        ensures { result ≡ unplain self }
+    {
+        match self {
+            Items::Plain => Items::Bare,
+            _ => self,
+        }
+    }
+
+    // A Function's return is one item more than its count.
+    pub fn more(self) -> u16
+        ensures is { result ≡ more self }
+        ensures small { result ≤ 1 }
+    {
+        match self {
+            Items::Plain | Items::Bare => 1,
+            Items::Fields | Items::Texts => 0,
+        }
+    }
+}
+
 // An open payload: the place of its shape, where it ends, how many items are due after the one that is read, and what they are.
 #[derive(Clone, Copy)]
 pub struct Level {
@@ -26,6 +73,25 @@ pub struct Level {
     pub stop: u16,
     pub due: u16,
     pub items: Items,
+}
+
+impl Level {
+    // The payload in hand after an item that is no primitive.
+    pub fn no_primitive(self) -> Level
+        ensures { result ≡ no_primitive self }
+    {
+        Level {
+            items: self.items.unplain(),
+            ..self
+        }
+    }
+
+    // The payload in hand, with so many items due after the one that is read.
+    pub fn with_due(self, due: u16) -> Level
+        ensures { result ≡ with_due self due }
+    {
+        Level { due, ..self }
+    }
 }
 
 // What the next byte is. Between and Opening are passed through at once: an item is read to its end; a payload opens.
@@ -72,65 +138,21 @@ pub enum Mode {
     },
     Between,
     Done,
+    // A host keeps a state as plain numbers, and may hand any back: the number need not be that of a fault.
     Faulty {
         number: u16,
         place: u16,
     },
 }
 
-// The larger of two numbers.
-pub fn larger(a: u16, b: u16) -> u16
-    ensures { result ≡ max a b }
-{
-    if a < b { b } else { a }
-}
-
-// A list one of whose items is no primitive has no short form.
-fn unplain(items: Items) -> Items
-    ensures { result ≡ unplain items }
-{
-    match items {
-        Items::Plain => Items::Bare,
-        Items::Bare => Items::Bare,
-        Items::Fields => Items::Fields,
-        Items::Texts => Items::Texts,
-    }
-}
-
-// The payload in hand after an item that is no primitive.
-pub fn no_primitive(top: Level) -> Level
-    ensures { result ≡ no_primitive top }
-{
-    let items = top.items;
-    Level {
-        at: top.at,
-        stop: top.stop,
-        due: top.due,
-        items: unplain(items),
-    }
-}
-
-// The payload in hand, with so many items due after the one that is read.
-pub fn with_due(top: Level, due: u16) -> Level
-    ensures { result ≡ with_due top due }
-{
-    let items = top.items;
-    Level {
-        at: top.at,
-        stop: top.stop,
-        due,
-        items,
-    }
-}
-
-// Whether all items so far are primitives, in a list that would have a short form then.
-pub fn plain_items(items: Items) -> bool
-    ensures { result ≡ plain items }
-{
-    match items {
-        Items::Plain => true,
-        Items::Bare => false,
-        Items::Fields => false,
-        Items::Texts => false,
+impl Mode {
+    // A fault was met at a place.
+    pub fn faulty(fault: Fault, place: u16) -> Mode
+        ensures { result ≡ Faulty (number_of fault) place }
+    {
+        Mode::Faulty {
+            number: fault as u16,
+            place,
+        }
     }
 }

@@ -9,7 +9,8 @@ ghost use Rattle.meaning.specs.Reading.{reading};
 ghost use Rattle.reader.specs.Said.{said};
 
 use leaves::limits::MAX_BYTES;
-use reader::Judgement;
+use leaves::refusals::Refusal;
+use reader::Accepted;
 use std::io;
 use std::io::Read;
 
@@ -20,6 +21,7 @@ fn read_full<R: Read>(input: &mut R, buffer: &mut [u8]) -> io::Result<usize>
     ensures end { IfOk result (λ n. n < length buffer.new → IsAtEnd (R.remaining input.new)) }
 {
     let mut n = 0;
+    // not one turn a byte: a read gives as many as there are
     while n < buffer.len() {
         let came = input.read(&mut buffer[n..])?;
         if came == 0 {
@@ -31,7 +33,7 @@ fn read_full<R: Read>(input: &mut R, buffer: &mut [u8]) -> io::Result<usize>
 }
 
 // Judges all that an input has, and reads no more of it than tells.
-fn judged<R: Read>(input: &mut R) -> io::Result<Judgement>
+fn judged<R: Read>(input: &mut R) -> io::Result<Result<Accepted, Refusal>>
     ensures { IfOk result (λ j. IfSome (R.remaining input.old) (λ bytes. j ≡ said (reading bytes))) }
 {
     let mut bytes = [0u8; MAX_BYTES + 1];
@@ -46,7 +48,7 @@ fn print_line(rt: &impl Print, word: &[u8], first: usize, second: usize) -> io::
 
 fn main(rt: HostRuntime) -> io::Result<()> {
     match judged(&mut rt.stdin())? {
-        Judgement::Accepted { length, depth } => print_line(&rt, b"ok ", length, depth),
-        Judgement::Refused { number, place } => print_line(&rt, b"no ", number, place),
+        Ok(shape) => print_line(&rt, b"ok ", shape.length, shape.depth),
+        Err(refusal) => print_line(&rt, b"no ", refusal.fault.number(), refusal.place),
     }
 }

@@ -1,17 +1,20 @@
--- The counts of a shape with a list, as the code finds them, in loops that count down.
+-- The counts of a shape with a list, as the code finds them, in loops over its items.
 --     part, part-is, text_short                   a part of a list as the code takes it is a window; a text is no longer than the bytes of its name
---     texts-one, texts-none                       of the texts that are due, one is gathered, and the others follow it; where none is due, none more is
+--     texts-next, texts-none                      after some of the texts, one more is gathered, and the others follow it; after all, none more is
+--     items-next, items-end                       so it is with the items of a list
 --     Texts, texts-start, texts-turn, texts-end   what the loop over a Symbol's texts keeps, and what it has at the end
 --     Tallied, tally-turn, tally-end              what the loop over a list's items keeps, and what it has at the end
+--     text-within, shape-within, text-short       a name that is due ends inside; with its text the texts are no longer than the bytes passed over
 --     text_few, shape-few, sum-few                where all items add few, so does each sum on the way
+--     none-counted                                where no shape stands, nothing is counted
 --     IsList, is-list                             at a place stands a list of these items
 --     list-few, list-sum, list_counted            a list, from what its items add
 -- Assumes nothing.
 use mathlib.Core.Path.{◌≡◌, refl, sym, ap, subst, ◌∙◌}
 use mathlib.Core.List.{List}
 use mathlib.Core.Bool.{Bool, true, false}
-use Prim.Native.Nat.{ℕ, zero, suc, ◌+◌, ◌-◌, ◌≤◌, ◌<◌}
-use native.Mathlib.Nat.{zero-add}
+use Prim.Native.Nat.{ℕ, zero, suc, ◌+◌, ◌-◌, ◌≤◌, ◌<◌, max}
+use native.Mathlib.Nat.{zero-add, sub-zero}
 use native.Mathlib.Numerals.{sub-one}
 use native.Mathlib.Omega.{arith}
 use lib.Dec.{leb}
@@ -32,7 +35,7 @@ use Rattle.counts.specs.declared.Counts.{Counts}
 use Rattle.counts.specs.declared.Counted.{Counted}
 use Rattle.counts.specs.declared.Tally.{Tally}
 use Rattle.counts.specs.Pieces.{none, plus, Few, text_from, text_in, Piece, Gathered, nothing, no_items, with_item, own_counts, list_piece, gather_texts, texts_of, symbol_piece, pieces}
-use Rattle.counts.specs.Counts.{CountedIs, TallyIs, FewItems}
+use Rattle.counts.specs.Counts.{nothing_counted, CountedIs, TallyIs, FewItems}
 use Rattle.counts.proofs.Grows.{below-few, grows, items-count}
 
 -- Nothing added to counts leaves them.
@@ -53,28 +56,43 @@ text_short w = omega (arith, length-drop (text_from w) w)
 
 module _ (w : List ℕ) (at : ℕ) (a : Gathered) where
   -- One text is gathered, and the others follow it.
-  pub texts-one : (due : ℕ) → 0 < due
+  texts-one : (due : ℕ) → 0 < due
       → gather_texts due w at a ≡ gather_texts (due - 1) w (past_name w at Symbol) (with_item a (slice at (past_name w at Symbol) w) nothing)
   unfolding gather_texts
   texts-one zero h = absurd (omega arith)
   texts-one (suc due) h = rw sub-one
 
-  -- Where none is due, none more is gathered.
-  pub texts-none : (due : ℕ) → due ≤ 0 → gather_texts due w at a ≡ a
-  unfolding gather_texts
-  texts-none zero h = refl
-  texts-none (suc due) h = absurd (omega arith)
+  -- So it is after k of them,
+  texts-next : (k count : ℕ) → k < count
+      → gather_texts (count - k) w at a ≡ gather_texts (count - (k + 1)) w (past_name w at Symbol) (with_item a (slice at (past_name w at Symbol) w) nothing)
+  texts-next k count h = let e : count - k - 1 ≡ count - (k + 1) = omega arith in rw e at (texts-one (count - k) (omega arith))
 
--- what the loop over the texts keeps, of which a are gathered: they have no shapes, are no longer than the bytes passed over, and those that are due
--- stand inside
-pub record Texts (w : List ℕ) (from count at text due : ℕ) : Type 0 where
+  -- and after all of them no more is gathered.
+  pub texts-none : (k count : ℕ) → count ≤ k → gather_texts (count - k) w at a ≡ a
+  unfolding gather_texts
+  texts-none k count h = let e : count - k ≡ 0 = omega arith in rw e
+
+module _ (inner : Passer Piece) (kind : Kind) (s : List ℕ) (at : ℕ) (a : Gathered) where
+  -- After k items of a list one is passed over, and the others follow it.
+  pub items-next : (k count : ℕ) → k < count
+      → pass_items pieces inner kind (count - k) s at a
+      ≡ pass_items pieces inner kind (count - (k + 1)) s (inner s (past_name s at kind)).next (with_item a (slice at (past_name s at kind) s) (inner s (past_name s at kind)).made)
+  items-next k count h = let e : count - k - 1 ≡ count - (k + 1) = omega arith in rw e at (items-one pieces inner kind s at a (count - k) (omega arith))
+
+  -- After all of them no more is.
+  pub items-end : (k count : ℕ) → count ≤ k → pass_items pieces inner kind (count - k) s at a ≡ came at a
+  items-end k count h = items-none pieces inner kind s at a (count - k) (omega arith)
+
+-- what the loop over the texts keeps after k of them, which a gathers: they have no shapes, are no longer than the bytes passed over, and those that
+-- are due stand inside
+pub record Texts (w : List ℕ) (from count at text k : ℕ) : Type 0 where
   pub a : Gathered
-  pub goes : gather_texts count w from no_items ≡ gather_texts due w at a
+  pub goes : gather_texts count w from no_items ≡ gather_texts (count - k) w at a
   pub shapeless : a.counts ≡ none
   pub text_is : text ≡ a.text
-  pub items-are : a.items + due ≡ count
+  pub items-are : a.items ≡ k
   pub short : text ≤ at
-  pub inside : 0 < due → at ≤ length w
+  pub inside : k < count → at ≤ length w
 
 -- Where a Symbol has texts, they start inside.
 symbol-inside : (w : List ℕ) → 0 < (list_at w head_size Symbol).count → head_size < length w
@@ -86,70 +104,84 @@ symbol-inside w h = go (leb (length w) 3) refl
     go false p = omega (arith, facts)
 
 -- At first none is gathered.
-pub texts-start : (w : List ℕ) (l : Listing) → l ≡ list_at w head_size Symbol → ListingInside w head_size l → Texts w l.from l.count l.from 0 l.count
+pub texts-start : (w : List ℕ) (l : Listing) → l ≡ list_at w head_size Symbol → ListingInside w head_size l → Texts w l.from l.count l.from 0 0
 texts-start w l e i = record {
   a = no_items;
-  goes = refl;
+  goes = rw sub-zero;
   shapeless = refl;
   text_is = refl;
-  items-are = zero-add _;
+  items-are = refl;
   short = omega arith;
   inside = λ h. let k = symbol-inside w (rw (← e) h) in omega (arith, i.1);
 }
 
-module _ (w : List ℕ) (from count at text due : ℕ) (t : Texts w from count at text due) where
-  -- A turn keeps it.
-  pub texts-turn : 0 < due → (start size : ℕ) → start ≡ past_name w at Symbol → at ≤ start → start ≤ length w → size ≡ length (text_in (part at start w))
-      → Texts w from count start (text + size) (due - 1)
-  texts-turn pos start size is onward within z = record {
-    a = with_item t.a (slice at start w) nothing;
-    goes = t.goes ∙ texts-one w at t.a due pos ∙ rw (← is);
-    shapeless = rw t.shapeless;
-    text_is = rw (z, t.text_is, part-is at start w onward within);
-    items-are = omega (arith, t.items-are);
-    short = omega (arith, z, t.short, text_short (part at start w), ap length (part-is at start w onward within), length-slice at start w within);
-    inside = λ _. within;
-  }
+module _ {w : List ℕ} {from count at text k : ℕ} (t : Texts w from count at text k) where
+  module _ (due : k < count) {start : ℕ} (is : start ≡ past_name w at Symbol) (inside : (at ≤ start) × (start ≤ max at (length w))) where
+    -- A text that is due ends inside.
+    pub text-within : start ≤ length w
+    text-within = omega (arith, inside.1, t.inside due)
+
+    module _ {size : ℕ} (sized : size ≡ length (text_in (part at start w))) where
+      -- With it the texts are no longer than the bytes passed over.
+      pub text-short : text + size ≤ start
+      text-short =
+          let i = text-within in let p = part-is at start w inside.0 i in
+          omega (arith, sized, t.short, text_short (part at start w), ap length p, length-slice at start w i)
+
+      -- A turn keeps what is kept.
+      pub texts-turn : Texts w from count start (text + size) (k + 1)
+      texts-turn = record {
+        a = with_item t.a (slice at start w) nothing;
+        goes = t.goes ∙ texts-next w at t.a k count due ∙ rw (← is);
+        shapeless = rw t.shapeless;
+        text_is = rw (sized, t.text_is, part-is at start w inside.0 text-within);
+        items-are = omega (arith, t.items-are);
+        short = text-short;
+        inside = λ _. text-within;
+      }
 
   -- At the end they are what the Symbol has.
-  pub texts-end : from ≡ (list_at w head_size Symbol).from → count ≡ (list_at w head_size Symbol).count → due ≤ 0
+  pub texts-end : from ≡ (list_at w head_size Symbol).from → count ≡ (list_at w head_size Symbol).count → k ≡ count
       → own_counts Symbol count text ≡ (symbol_piece w).counts
   unfolding symbol_piece
   texts-end f n z =
-      let e : texts_of w ≡ t.a = rw (← f, ← n) (t.goes ∙ texts-none w at t.a due z) in
+      let e : texts_of w ≡ t.a = rw (← f, ← n) (t.goes ∙ texts-none w at t.a k count (omega arith)) in
       let i : t.a.items ≡ count = omega (arith, t.items-are) in
       rw (e, t.shapeless, i, ← t.text_is) (sym (none-plus _))
 
--- what the loop over a list's items keeps, of which a are passed over: their counts and the length of their texts are found, and those that are due
--- end as the whole list does
-pub record Tallied (inner : Passer Piece) (kind : Kind) (s : List ℕ) (from count at : ℕ) (counts : Counts) (text due : ℕ) : Type 0 where
+-- what the loop over a list's items keeps after k of them, which a passes over: their counts and the length of their texts are found, and those that
+-- are due end as the whole list does
+pub record Tallied (inner : Passer Piece) (kind : Kind) (s : List ℕ) (from count at : ℕ) (counts : Counts) (text k : ℕ) : Type 0 where
   pub a : Gathered
-  pub goes : pass_items pieces inner kind count s from no_items ≡ pass_items pieces inner kind due s at a
+  pub goes : pass_items pieces inner kind count s from no_items ≡ pass_items pieces inner kind (count - k) s at a
   pub counts-are : counts ≡ a.counts
   pub text_is : text ≡ a.text
   pub inside : at ≤ length s
-  pub fewer : due ≤ count
 
-module _ {inner : Passer Piece} {kind : Kind} {s : List ℕ} {from count at : ℕ} {counts : Counts} {text due : ℕ} (t : Tallied inner kind s from count at counts text due)
-    (few : FewItems (pass_items pieces inner kind count s from no_items).made) (pos : 0 < due)
-    {start : ℕ} (is : start ≡ past_name s at kind) (onward : at ≤ start) (within : start ≤ length s) where
+module _ {inner : Passer Piece} {kind : Kind} {s : List ℕ} {from count at : ℕ} {counts : Counts} {text k : ℕ} (t : Tallied inner kind s from count at counts text k)
+    (few : FewItems (pass_items pieces inner kind count s from no_items).made) (due : k < count)
+    {start : ℕ} (is : start ≡ past_name s at kind) (inside : (at ≤ start) × (start ≤ max at (length s))) where
+  -- A shape that is due starts inside.
+  pub shape-within : start ≤ length s
+  shape-within = omega (arith, inside.1, t.inside)
+
   -- the items with the next one
   abbrev more : Gathered
   more = with_item t.a (slice at start s) (inner s start).made
 
   -- They and those that are due then end as the whole list does.
-  goes_on_lem : pass_items pieces inner kind count s from no_items ≡ pass_items pieces inner kind (due - 1) s (inner s start).next more
-  goes_on_lem = t.goes ∙ items-one pieces inner kind s at t.a due pos ∙ rw (← is)
+  goes_on_lem : pass_items pieces inner kind count s from no_items ≡ pass_items pieces inner kind (count - (k + 1)) s (inner s start).next more
+  goes_on_lem = t.goes ∙ items-next inner kind s at t.a k count due ∙ rw (← is)
 
   -- What they add is few.
   more-few : FewItems more
   more-few =
-      let f = rw goes_on_lem at few in let g = grows inner kind s (due - 1) (inner s start).next more in
+      let f = rw goes_on_lem at few in let g = grows inner kind s (count - (k + 1)) (inner s start).next more in
       (below-few _ _ g.counts f.0, omega (arith, g.text, f.1))
 
   -- So the text is counted without a loss,
   pub text_few : {size : ℕ} → size ≡ length (text_in (part at start s)) → text + size < 65536
-  text_few z = rw (z, t.text_is, part-is at start s onward within) more-few.1
+  text_few z = rw (z, t.text_is, part-is at start s inside.0 shape-within) more-few.1
 
   -- what the shape adds is few,
   pub shape-few : Few (inner s start).made.counts
@@ -161,22 +193,25 @@ module _ {inner : Passer Piece} {kind : Kind} {s : List ℕ} {from count at : �
 
   -- A turn keeps what is kept.
   pub tally-turn : {size : ℕ} {v : Counted} {r : Counts} → size ≡ length (text_in (part at start s)) → CountedIs s v (inner s start) → r ≡ plus counts v.counts
-      → Tallied inner kind s from count v.next r (text + size) (due - 1)
+      → Tallied inner kind s from count v.next r (text + size) (k + 1)
   tally-turn z h e = record {
     a = more;
     goes = goes_on_lem ∙ rw h.next_is;
     counts-are = rw (e, t.counts-are, h.counts_is);
-    text_is = rw (z, t.text_is, part-is at start s onward within);
+    text_is = rw (z, t.text_is, part-is at start s inside.0 shape-within);
     inside = h.inside;
-    fewer = omega (arith, t.fewer);
   }
 
 -- At the end the items are passed over.
-pub tally-end : {inner : Passer Piece} {kind : Kind} {s : List ℕ} {from count at : ℕ} {counts : Counts} {text due : ℕ} → Tallied inner kind s from count at counts text due → due ≤ 0
+pub tally-end : {inner : Passer Piece} {kind : Kind} {s : List ℕ} {from count at : ℕ} {counts : Counts} {text k : ℕ} → Tallied inner kind s from count at counts text k → count ≤ k
     → TallyIs s (record { next = at; counts = counts; text = text }) (pass_items pieces inner kind count s from no_items)
-tally-end {inner} {kind} {s} {at = at} {due = due} t z =
-    rw (t.goes ∙ items-none pieces inner kind s at t.a due z)
+tally-end {inner} {kind} {s} {count = count} {at = at} {k = k} t z =
+    rw (t.goes ∙ items-end inner kind s at t.a k count z)
     (record { next_is = refl; counts_is = t.counts-are; text_is = t.text_is; inside = t.inside })
+
+-- Where no shape stands, nothing is counted.
+pub none-counted : {s : List ℕ} {at : ℕ} {r : Counted} {v : Came Piece} → r ≡ nothing_counted at → v ≡ came at nothing → at ≤ length s → CountedIs s r v
+none-counted e h i = rw (e, h) (record { next_is = refl; counts_is = refl; inside = i })
 
 -- the items of a list, of which each has one level less
 abbrev pub all_of : ℕ → List ℕ → Kind → Listing → Came Gathered

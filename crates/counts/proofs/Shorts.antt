@@ -1,6 +1,7 @@
 -- A shape of one byte (specs/Pieces.antt, `short_piece`).
 --     short-blank, short-prim, short-array, short-map     what it is, by its byte
 --     single-counts, array-counts, map-counts             how many entries it adds
+--     kinds, numbers                                      those of the first line, and of the second
 -- Assumes nothing.
 use mathlib.Core.Path.{◌≡◌, refl}
 use Prim.Native.Nat.{ℕ, ◌-◌, ◌/◌, ◌%◌, ◌≤◌, ◌<◌}
@@ -47,3 +48,8 @@ module _ (b : ℕ) where
   -- a Map of two three nodes and two links.
   pub map-counts : map_byte 0 0 ≤ b → many 3 2 0 0 ≡ (short_piece b).counts
   map-counts h = rw (short-map h, drop-nil)
+
+-- By its byte, what it is, and how many entries it adds.
+pub ruleset kinds = (short-blank, short-prim, short-array, short-map)
+
+pub ruleset numbers = (single-counts, array-counts, map-counts)

@@ -1,9 +1,18 @@
 -- What the code counts, by places in the encoding s. No public contract of a call cites it.
 use Rattle.std.specs.Prelude.{ℕ, ◌≤◌, ◌<◌, ◌≡◌, List, length}
-use Rattle.steps.specs.Pass.{Came}
+use Rattle.steps.specs.Pass.{Came, pass_items, pass_shape}
 use Rattle.counts.specs.declared.Counted.{Counted}
 use Rattle.counts.specs.declared.Tally.{Tally}
-use Rattle.counts.specs.Pieces.{Few, Piece, Gathered}
+use Rattle.counts.specs.declared.items.Items.{Items}
+use Rattle.counts.specs.Pieces.{none, Few, Piece, Gathered, no_items, pieces}
+
+-- the items of a list, of which each is a shape
+abbrev pub shapes_at : List ℕ → Items → Came Gathered
+shapes_at s items = pass_items pieces (pass_shape pieces items.left) items.kind items.count s items.from no_items
+
+-- nothing was counted at a place
+abbrev pub nothing_counted : ℕ → Counted
+nothing_counted at = record { next = at; counts = none }
 
 -- what was counted of a shape is what the pass makes of it, and the place after it is inside
 pub record CountedIs (s : List ℕ) (r : Counted) (v : Came Piece) : Type 0 where

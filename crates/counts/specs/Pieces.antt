@@ -1,6 +1,6 @@
 -- What a shape adds to a table, section by section, and the pass over an encoding that finds it (steps/specs/Pass.antt). Proved to be what the table
 -- of the shape has (proofs/Grown.antt, proofs/Making.antt). No public contract cites it.
-use Rattle.std.specs.Prelude.{ℕ, zero, suc, ◌+◌, ◌-◌, ◌*◌, ◌/◌, ◌%◌, ◌≤◌, ◌<◌, List, [], ◌++◌, ltb, length, drop}
+use Rattle.std.specs.Prelude.{ℕ, zero, suc, ◌+◌, ◌-◌, ◌*◌, ◌/◌, ◌%◌, ◌≤◌, ◌<◌, List, [], ◌++◌, ltb, length, drop, Result, Ok, Err}
 use Rattle.std.proofs.Math.Seq.{slice}
 use Rattle.meaning.specs.Rules.{◌⇒◌∣◌}
 use Rattle.meaning.specs.Numbers.{two_bytes}
@@ -8,7 +8,7 @@ use Rattle.meaning.specs.FirstByte.{short_blanks, prim_byte, array_byte, map_byt
 use Rattle.meaning.specs.Table.{array_kind, map_kind, record_kind, function_kind, symbol_kind, variable_kind}
 use Rattle.leaves.specs.Leb.{leb_at}
 use Rattle.leaves.specs.declared.Leb.{Leb}
-use Rattle.leaves.specs.declared.Leb.TheVariants.{Number, Fault}
+use Rattle.leaves.specs.declared.refusals.Refusal.{Refusal}
 use Rattle.payloads.specs.Payload.{named, shaped}
 use Rattle.payloads.specs.declared.first.Kind.{Kind}
 use Rattle.payloads.specs.declared.first.Kind.TheVariants.{Array, Map, Record, Function, Symbol, Variable}
@@ -38,9 +38,9 @@ abbrev pub Linked : Counts → Type 0
 Linked c = c.names ≤ c.links
 
 -- where the text starts in the bytes of a name, after its length, and the text
-abbrev pub text_by : List ℕ → Leb → ℕ
-text_by w (Number size next) = next
-text_by w (Fault number) = length w
+abbrev pub text_by : List ℕ → Result Leb Refusal → ℕ
+text_by w (Ok size) = size.next
+text_by w (Err refusal) = length w
 
 unfoldable pub text_from : List ℕ → ℕ
 text_from w = text_by w (leb_at w (length w) 0)

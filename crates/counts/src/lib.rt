@@ -1,17 +1,20 @@
 // How many nodes, links, names and bytes of text the table of a shape has, found by one pass over the accepted bytes.
 #![tactic(auto)]
 
+pub mod items;
+
 ghost use Rattle.std.specs.Prelude.{◌≡◌, false, ◌≤◌, ◌<◌, ◌+◌, length};
 ghost use Rattle.meaning.specs.Limits.{max_levels};
 ghost use Rattle.payloads.specs.declared.first.First.TheVariants.{Long};
 ghost use Rattle.payloads.specs.Payload.{shaped};
 ghost use Rattle.steps.specs.Steps.{first_at};
-ghost use Rattle.steps.specs.Pass.{pass_items, pass_shape};
-ghost use Rattle.counts.specs.Pieces.{many, none, plus, Few, text_from, text_in, no_items, own_counts, short_piece, symbol_piece, pieces, inner};
-ghost use Rattle.counts.specs.Counts.{CountedIs, TallyIs, FewItems};
+ghost use Rattle.steps.specs.Pass.{pass_shape};
+ghost use Rattle.counts.specs.Pieces.{many, none, plus, Few, text_from, text_in, own_counts, short_piece, symbol_piece, pieces, inner};
+ghost use Rattle.counts.specs.Counts.{nothing_counted, shapes_at, CountedIs, TallyIs, FewItems};
 
-use leaves::Leb;
+use items::Items;
 use payloads::first::{First, Kind, PACKED, PACKED_MAPS};
+use std::ops::Add;
 use steps::{HEAD_SIZE, LONG_BLANK};
 
 // So many nodes, links, names and bytes of text.
@@ -21,6 +24,34 @@ pub struct Counts {
     pub links: usize,
     pub names: usize,
     pub text: usize,
+}
+
+impl Counts {
+    // Nothing is there.
+    pub const NONE: Counts = Counts {
+        nodes: 0,
+        links: 0,
+        names: 0,
+        text: 0,
+    };
+}
+
+// Two counts together.
+impl Add for Counts {
+    type Output = Counts;
+
+    ghost can_add = { λ a b. Few (plus a b) };
+
+    ghost add_gives = { λ a b sum. sum ≡ plus a b };
+
+    fn add(self, other: Counts) -> Counts {
+        Counts {
+            nodes: self.nodes + other.nodes,
+            links: self.links + other.links,
+            names: self.names + other.names,
+            text: self.text + other.text,
+        }
+    }
 }
 
 // The sections of a table.
@@ -47,39 +78,15 @@ pub struct Tally {
     pub text: usize,
 }
 
-// Nothing is there.
-pub fn no_counts() -> Counts
-    ensures { result ≡ none }
-{
-    Counts {
-        nodes: 0,
-        links: 0,
-        names: 0,
-        text: 0,
-    }
-}
-
-// Two counts together.
-pub fn plus(a: Counts, b: Counts) -> Counts
-    requires { Few (plus a b) }
-    ensures { result ≡ plus a b }
-{
-    Counts {
-        nodes: a.nodes + b.nodes,
-        links: a.links + b.links,
-        names: a.names + b.names,
-        text: a.text + b.text,
-    }
-}
-
 // Where the text starts in the bytes of a name; their end, where there is none.
+#[tactic(auto, unfolding(crate::specs::Pieces::text_from))]
 pub fn text_from(w: &[u8]) -> usize
     ensures is { result ≡ text_from w.now }
     ensures inside { result ≤ length w.now }
 {
-    match leaves::leb128(w, w.len(), 0) {
-        Leb::Number { value: _, next } => next,
-        Leb::Fault { number: _ } => w.len(),
+    match leaves::leb128(w, 0) {
+        Ok(size) => size.next,
+        Err(_) => w.len(),
     }
 }
 
@@ -94,19 +101,21 @@ pub fn text_size(w: &[u8]) -> usize
 pub fn own_counts(kind: Kind, items: usize, text: usize) -> Counts
     ensures { result ≡ own_counts kind items text }
 {
-    if payloads::named_kind(kind) {
-        return Counts {
-            nodes: 1,
-            links: items,
-            names: items,
-            text,
-        };
-    }
     Counts {
         nodes: 1,
         links: items,
-        names: 0,
+        names: if kind.is_named() { items } else { 0 },
         text,
+    }
+}
+
+// Nothing was counted at a place.
+fn nothing_at(at: usize) -> Counted
+    ensures { result ≡ nothing_counted at }
+{
+    Counted {
+        next: at,
+        counts: Counts::NONE,
     }
 }
 
@@ -124,16 +133,15 @@ fn packed_counts(links: usize) -> Counts
 }
 
 // What a shape of one byte adds: an Array and a Map of primitives have them as nodes.
+#[tactic(auto, using(crate::proofs::Shorts::numbers))]
 pub fn short_counts(b: u8) -> Counts
     ensures { result ≡ (short_piece b).counts }
 {
-    if b < PACKED {
-        return packed_counts(0);
+    match b {
+        0..PACKED => packed_counts(0),
+        PACKED..PACKED_MAPS => packed_counts(1),
+        _ => packed_counts(2),
     }
-    if b < PACKED_MAPS {
-        return packed_counts(1);
-    }
-    packed_counts(2)
 }
 
 // What a Symbol adds, given its bytes.
@@ -142,17 +150,14 @@ fn count_symbol(w: &[u8]) -> Counts
     ensures { result ≡ (symbol_piece w.now).counts }
 {
     let list = steps::list_at(w, HEAD_SIZE, Kind::Symbol);
-    let count = list.count;
     let mut at = list.from;
     let mut text = 0;
-    let mut due = count;
-    while 0 < due {
-        due -= 1;
+    for _ in 0..list.count {
         let start = steps::past_name(w, at, Kind::Symbol);
         text += text_size(&w[at..start]);
         at = start;
     }
-    own_counts(Kind::Symbol, count, text)
+    own_counts(Kind::Symbol, list.count, text)
 }
 
 // A shape with a payload that is no list of shapes.
@@ -160,7 +165,7 @@ pub fn count_plain(s: &[u8], at: usize, left: usize, kind: Kind) -> Counted
     requires { (at < length s.now) × (length s.now < 65536) × (first_at s.now at ≡ Long kind) × (shaped kind ≡ false) }
     ensures { CountedIs s.now result (pass_shape pieces left s.now at) }
 {
-    if payloads::named_kind(kind) {
+    if kind.is_named() {
         let next = steps::past_long(s, at);
         return Counted {
             next,
@@ -168,10 +173,7 @@ pub fn count_plain(s: &[u8], at: usize, left: usize, kind: Kind) -> Counted
         };
     }
     if s.len() - at < LONG_BLANK {
-        return Counted {
-            next: at,
-            counts: no_counts(),
-        };
+        return nothing_at(at);
     }
     Counted {
         next: at + LONG_BLANK,
@@ -186,56 +188,48 @@ pub fn count_at(s: &[u8], at: usize, left: usize) -> Counted
     ensures { CountedIs s.now result (pass_shape pieces left s.now at) }
 {
     match steps::first_at(s, at) {
-        First::Unassigned => Counted {
-            next: at,
-            counts: no_counts(),
-        },
-        First::Short { levels: _ } => Counted {
+        First::Unassigned => nothing_at(at),
+        First::Short { .. } => Counted {
             next: at + 1,
             counts: short_counts(s[at]),
         },
         First::Long { kind } => {
-            if payloads::shaped_kind(kind) {
-                if left == 0 {
-                    return Counted {
-                        next: at,
-                        counts: no_counts(),
-                    };
-                }
-                if s.len() - at < HEAD_SIZE {
-                    return Counted {
-                        next: at,
-                        counts: no_counts(),
-                    };
-                }
-                let list = steps::list_at(s, at + HEAD_SIZE, kind);
-                let all = count_items(s, list.from, left - 1, kind, list.count);
-                return Counted {
-                    next: all.next,
-                    counts: plus(all.counts, own_counts(kind, list.count, all.text)),
-                };
+            if !kind.is_shaped() {
+                return count_plain(s, at, left, kind);
             }
-            count_plain(s, at, left, kind)
+            if left == 0 || s.len() - at < HEAD_SIZE {
+                return nothing_at(at);
+            }
+            let list = steps::list_at(s, at + HEAD_SIZE, kind);
+            let items = Items {
+                from: list.from,
+                count: list.count,
+                kind,
+                left: left - 1,
+            };
+            let all = count_items(s, items);
+            Counted {
+                next: all.next,
+                counts: all.counts + own_counts(kind, items.count, all.text),
+            }
         }
     }
 }
 
 // What the items of a list add. The pair of levels left and items left falls, as the reader's does.
 #[cycle(count_at_count_items)]
-fn count_items(s: &[u8], from: usize, left: usize, kind: Kind, count: usize) -> Tally
-    requires { (from ≤ length s.now) × (length s.now < 65536) × (left ≤ max_levels) × (count ≤ 16384) × FewItems (pass_items pieces (pass_shape pieces left) kind count s.now from no_items).made }
-    ensures { TallyIs s.now result (pass_items pieces (pass_shape pieces left) kind count s.now from no_items) }
+fn count_items(s: &[u8], items: Items) -> Tally
+    requires { (items.from ≤ length s.now) × (length s.now < 65536) × FewItems (shapes_at s.now items).made }
+    ensures { TallyIs s.now result (shapes_at s.now items) }
 {
-    let mut at = from;
-    let mut counts = no_counts();
+    let mut at = items.from;
+    let mut counts = Counts::NONE;
     let mut text = 0;
-    let mut due = count;
-    while 0 < due {
-        due -= 1;
-        let start = steps::past_name(s, at, kind);
+    for _ in 0..items.count {
+        let start = steps::past_name(s, at, items.kind);
         text += text_size(&s[at..start]);
-        let part = count_at(s, start, left);
-        counts = plus(counts, part.counts);
+        let part = count_at(s, start, items.left);
+        counts = counts + part.counts;
         at = part.next;
     }
     Tally {
@@ -250,11 +244,9 @@ pub fn count_inner(s: &[u8], at: usize, left: usize, kind: Kind) -> Counted
     requires { (at ≤ length s.now) × (length s.now < 65536) × (left ≤ max_levels) × Few (inner left kind s.now at).made.counts }
     ensures { CountedIs s.now result (inner left kind s.now at) }
 {
-    if payloads::shaped_kind(kind) {
-        return count_at(s, at, left);
-    }
-    Counted {
-        next: at,
-        counts: no_counts(),
+    if kind.is_shaped() {
+        count_at(s, at, left)
+    } else {
+        nothing_at(at)
     }
 }

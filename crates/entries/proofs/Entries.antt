@@ -1,17 +1,15 @@
 -- Laws of the entries of a table (counts/specs/Pieces.antt), as they are written.
 --     pair-wrote     two numbers, written one after the other
---     text-length    how long a name's text is
---     text-wrote     the bytes of a name from its text's start on are its text
 --     no-entry, no_own     a section that has no entries for the items of a list of a kind gets nothing of them
 --     own-bytes      a list's node after the entries for its items
 -- Assumes nothing.
 use mathlib.Core.Path.{◌≡◌, refl}
 use mathlib.Core.Bool.{false}
 use mathlib.Core.List.{List, [], ◌++◌}
-use Prim.Native.Nat.{ℕ, zero, suc, ◌+◌, ◌-◌, ◌≤◌}
+use Prim.Native.Nat.{ℕ, zero, suc, ◌+◌, ◌≤◌}
 use native.Mathlib.Omega.{arith}
-use lib.ListN.{length, length-drop}
-use lib.Seq.{slice, slice_empty, take-length}
+use lib.ListN.{length}
+use lib.Seq.{slice, slice_empty}
 use Rattle.meaning.specs.Numbers.{two_bytes}
 use Rattle.buffers.specs.Written.{written}
 use Rattle.payloads.specs.declared.first.Kind.{Kind}
@@ -20,7 +18,7 @@ use Rattle.steps.specs.Pass.{Passer, pass_items}
 use Rattle.counts.specs.declared.Counts.{Counts}
 use Rattle.counts.specs.declared.Section.{Section}
 use Rattle.counts.specs.declared.Section.TheVariants.{Nodes, Links, Names, Text}
-use Rattle.counts.specs.Pieces.{plus, text_from, text_in, kind_number, node_entry, item_entry, Piece, Gathered, no_items, own_bytes, pieces, inner}
+use Rattle.counts.specs.Pieces.{plus, text_in, kind_number, node_entry, item_entry, Piece, Gathered, no_items, own_bytes, pieces, inner}
 use Rattle.counts.proofs.Grows.{items-count}
 use Rattle.counts.proofs.Texted.{text-none}
 use Rattle.entries.specs.Entries.{has_entries, Wrote, items_at}
@@ -33,14 +31,6 @@ pair-wrote d e f to m n room p q =
     let two : Wrote d e to (two_bytes m) (to + 2) = record { after = omega arith; wrote = p } in
     let four : Wrote e f (to + 2) (two_bytes n) (to + 4) = record { after = omega arith; wrote = q } in
     wrote_after (omega arith) two four
-
--- A name's text is as long as what the name has from the text's start on.
-pub text-length : (w : List ℕ) (n : ℕ) → n ≡ text_from w → length (text_in w) ≡ length w - n
-text-length w n e = rw (← e, length-drop)
-
--- The bytes of a name from its text's start on are its text.
-pub text-wrote : (d e w : List ℕ) (to n : ℕ) → n ≡ text_from w → e ≡ written d to (slice n (length w) w) → Wrote d e to (text_in w) (to + (length w - n))
-text-wrote d e w to n h p = record { after = rw (text-length w n h); wrote = rw (← h) (rw take-length at p) }
 
 -- Where a section has no entries for the items of a list of a kind, it gets nothing of an item,
 no-entry : (section : Section) (kind : Kind) (m k start : ℕ) (s : List ℕ) (at : ℕ) → has_entries section kind ≡ false

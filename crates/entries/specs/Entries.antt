@@ -7,6 +7,7 @@ use Rattle.payloads.specs.declared.first.Kind.{Kind}
 use Rattle.steps.specs.Pass.{Came, pass_items}
 use Rattle.counts.specs.declared.Counts.{Counts}
 use Rattle.counts.specs.declared.Section.{Section}
+use Rattle.counts.specs.declared.items.Items.{Items}
 use Rattle.counts.specs.declared.Section.TheVariants.{Nodes, Links, Names, Text}
 use Rattle.counts.specs.Pieces.{Few, Gathered, no_items, pieces, inner}
 
@@ -25,6 +26,9 @@ FewOwn base after a =
 -- the items of a list, of which each is a shape or a text
 abbrev pub items_at : ℕ → Kind → ℕ → List ℕ → ℕ → Came Gathered
 items_at left kind count s from = pass_items pieces (inner left kind) kind count s from no_items
+
+abbrev pub items_in : List ℕ → Items → Came Gathered
+items_in s items = items_at items.left items.kind items.count s items.from
 
 -- the buffer d became e: bytes w were written from a place on, and r is the place after them
 pub record Wrote (d e : List ℕ) (to : ℕ) (w : List ℕ) (r : ℕ) : Type 0 where

@@ -1,18 +1,17 @@
 // What a section of a node table gets of one node: the node, and the entries that it has for the items of its list.
 #![tactic(auto)]
 
-ghost use Rattle.std.specs.Prelude.{◌≡◌, ◌≤◌, ◌<◌, ◌-◌, length};
-ghost use Rattle.meaning.specs.Rules.{◌⇒◌∣◌};
-ghost use Rattle.meaning.specs.Limits.{max_levels};
+ghost use Rattle.std.specs.Prelude.{◌≡◌, ◌≤◌, ◌<◌, length};
 ghost use Rattle.counts.specs.Pieces.{plus, text_in, kind_number, node_entry, link_entry, name_entry, item_entry, own_bytes};
-ghost use Rattle.entries.specs.Entries.{has_entries, FewOwn, items_at, Wrote, Room};
+ghost use Rattle.entries.specs.Entries.{has_entries, FewOwn, items_in, Wrote, Room};
 
-use buffers::{put_part, put_two};
+use buffers::{put_bytes, put_two};
+use counts::items::Items;
 use counts::{Counts, Section, count_inner};
 use payloads::first::Kind;
 use tables::{ARRAY, FUNCTION, LINK_SIZE, MAP, NAME_SIZE, NODE_SIZE, RECORD, SYMBOL, VARIABLE};
 
-// The number of a kind in a table.
+// The number of a kind in a table's bytes. No From: the kinds are of one crate below, and the numbers of another.
 fn kind_number(kind: Kind) -> u8
     ensures { result ≡ kind_number kind }
 {
@@ -27,6 +26,7 @@ fn kind_number(kind: Kind) -> u8
 }
 
 // What a section gets of a node. The place after it.
+#[tactic(auto, using(crate::proofs::Wrote::wrote_none))]
 pub fn put_node(section: Section, kind: u8, a: usize, b: usize, out: &mut [u8], to: usize) -> usize
     requires { (a < 65536) × (b < 65536) × Room (length out.old) to (node_entry section kind a b) }
     ensures { Wrote out.old out.new to (node_entry section kind a b) result }
@@ -36,21 +36,8 @@ pub fn put_node(section: Section, kind: u8, a: usize, b: usize, out: &mut [u8], 
             tables::put_node(out, to, kind, a, b);
             to + NODE_SIZE
         }
-        Section::Links => to,
-        Section::Names => to,
-        Section::Text => to,
+        Section::Links | Section::Names | Section::Text => to,
     }
-}
-
-// A number, if something is so, or 0.
-fn number_if(so: bool, n: usize) -> usize
-    ensures is { result ≡ (so ⇒ n ∣ λ _. 0) }
-    ensures within { result ≤ n }
-{
-    if so {
-        return n;
-    }
-    0
 }
 
 // A link of a node of a kind: to a target, unless it is a Symbol's, with name k, if its kind has names. The place after it.
@@ -58,10 +45,8 @@ pub fn put_link(kind: Kind, target: usize, k: usize, out: &mut [u8], to: usize) 
     requires { (target < 65536) × (k < 65536) × Room (length out.old) to (link_entry kind target k) }
     ensures { Wrote out.old out.new to (link_entry kind target k) result }
 {
-    let shaped = payloads::shaped_kind(kind);
-    let named = payloads::named_kind(kind);
-    put_two(out, to, number_if(shaped, target));
-    put_two(out, to + 2, number_if(named, k));
+    put_two(out, to, if kind.is_shaped() { target } else { 0 });
+    put_two(out, to + 2, if kind.is_named() { k } else { 0 });
     to + LINK_SIZE
 }
 
@@ -70,15 +55,17 @@ fn put_name(kind: Kind, start: usize, size: usize, out: &mut [u8], to: usize) ->
     requires { (start < 65536) × (size < 65536) × Room (length out.old) to (name_entry kind start size) }
     ensures { Wrote out.old out.new to (name_entry kind start size) result }
 {
-    if payloads::named_kind(kind) {
+    if kind.is_named() {
         put_two(out, to, start);
         put_two(out, to + 2, size);
-        return to + NAME_SIZE;
+        to + NAME_SIZE
+    } else {
+        to
     }
-    to
 }
 
 // What a section gets of an item of a node's list, where w are the bytes of its name. The place after it.
+#[tactic(auto, using(crate::proofs::Wrote::wrote_none))]
 fn put_item(
     section: Section,
     kind: Kind,
@@ -92,27 +79,16 @@ fn put_item(
     requires { (target < 65536) × (k < 65536) × (start < 65536) × (length w.now < 65536) × Room (length out.old) to (item_entry section kind target k start (text_in w.now)) }
     ensures { Wrote out.old out.new to (item_entry section kind target k start (text_in w.now)) result }
 {
-    let from = counts::text_from(w);
-    let size = w.len() - from;
+    let text = &w[counts::text_from(w)..];
     match section {
         Section::Nodes => to,
         Section::Links => put_link(kind, target, k, out, to),
-        Section::Names => put_name(kind, start, size, out, to),
+        Section::Names => put_name(kind, start, text.len(), out, to),
         Section::Text => {
-            put_part(out, to, w, from, w.len());
-            to + size
+            put_bytes(out, to, text);
+            to + text.len()
         }
     }
-}
-
-// The number before, or 0.
-fn before(n: usize) -> usize
-    ensures { result ≡ n - 1 }
-{
-    if n == 0 {
-        return 0;
-    }
-    n - 1
 }
 
 // Whether a section has entries for the items of a list of a kind.
@@ -122,8 +98,7 @@ fn has_entries(section: Section, kind: Kind) -> bool
     match section {
         Section::Nodes => false,
         Section::Links => true,
-        Section::Names => payloads::named_kind(kind),
-        Section::Text => payloads::named_kind(kind),
+        Section::Names | Section::Text => kind.is_named(),
     }
 }
 
@@ -131,37 +106,31 @@ fn has_entries(section: Section, kind: Kind) -> bool
 fn put_own(
     section: Section,
     s: &[u8],
-    from: usize,
-    left: usize,
-    kind: Kind,
-    count: usize,
+    items: Items,
     base: Counts,
     after: Counts,
     out: &mut [u8],
     first: usize,
 ) -> usize
-    requires { (from ≤ length s.now) × (length s.now < 65536) × (left ≤ max_levels) × (count ≤ 16384) × FewOwn base after (items_at left kind count s.now from).made × Room (length out.old) first ((items_at left kind count s.now from).made.own section kind base after) }
-    ensures { Wrote out.old out.new first ((items_at left kind count s.now from).made.own section kind base after) result }
+    requires { (items.from ≤ length s.now) × (length s.now < 65536) × FewOwn base after (items_in s.now items).made × Room (length out.old) first ((items_in s.now items).made.own section items.kind base after) }
+    ensures { Wrote out.old out.new first ((items_in s.now items).made.own section items.kind base after) result }
 {
-    if !has_entries(section, kind) {
+    if !has_entries(section, items.kind) {
         return first;
     }
-    let mut at = from;
+    let mut at = items.from;
     let mut to = first;
     let mut nodes = 0;
     let mut text = 0;
-    let mut k = 0;
-    let mut due = count;
-    while 0 < due {
-        due -= 1;
-        let start = steps::past_name(s, at, kind);
-        let part = count_inner(s, start, left, kind);
+    for k in 0..items.count {
+        let start = steps::past_name(s, at, items.kind);
+        let part = count_inner(s, start, items.left, items.kind);
         nodes += part.counts.nodes;
         let w = &s[at..start];
         to = put_item(
             section,
-            kind,
-            before(base.nodes + nodes),
+            items.kind,
+            (base.nodes + nodes).saturating_sub(1),
             after.names + k,
             after.text + text,
             w,
@@ -169,7 +138,6 @@ fn put_own(
             to,
         );
         text += counts::text_size(w);
-        k += 1;
         at = part.next;
     }
     to
@@ -179,18 +147,22 @@ fn put_own(
 pub fn put_list(
     section: Section,
     s: &[u8],
-    from: usize,
-    left: usize,
-    kind: Kind,
-    count: usize,
+    items: Items,
     base: Counts,
     after: Counts,
     out: &mut [u8],
     to: usize,
 ) -> usize
-    requires { (from ≤ length s.now) × (length s.now < 65536) × (left ≤ max_levels) × (count ≤ 16384) × (after ≡ plus base (items_at left kind count s.now from).made.counts) × (after.links < 65536) × FewOwn base after (items_at left kind count s.now from).made × Room (length out.old) to (own_bytes section kind (items_at left kind count s.now from).made base) }
-    ensures { Wrote out.old out.new to (own_bytes section kind (items_at left kind count s.now from).made base) result }
+    requires { (items.from ≤ length s.now) × (length s.now < 65536) × (after ≡ plus base (items_in s.now items).made.counts) × (after.links < 65536) × FewOwn base after (items_in s.now items).made × Room (length out.old) to (own_bytes section items.kind (items_in s.now items).made base) }
+    ensures { Wrote out.old out.new to (own_bytes section items.kind (items_in s.now items).made base) result }
 {
-    let end = put_own(section, s, from, left, kind, count, base, after, out, to);
-    put_node(section, kind_number(kind), after.links, count, out, end)
+    let end = put_own(section, s, items, base, after, out, to);
+    put_node(
+        section,
+        kind_number(items.kind),
+        after.links,
+        items.count,
+        out,
+        end,
+    )
 }

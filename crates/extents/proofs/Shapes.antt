@@ -29,8 +29,8 @@ use Rattle.meaning.specs.Table.{Node, Table, array_kind, map_kind, record_kind, 
 use Rattle.meaning.specs.TableReading.{node_size}
 use Rattle.meaning.proofs.Rules.{rule, both}
 use Rattle.tables.specs.declared.Way.TheVariants.{Bare, Named, Texts}
-use Rattle.tables.specs.Places.{text_place, table_in, node_at, link_at, name_at, good_by, good_from, good_at, first_bad_node, good_name, first_bad_name}
-use Rattle.tables.proofs.Whole.{Fits, node-view, link-view, text-view}
+use Rattle.tables.specs.Places.{text_place, table_in, node_at, link_at, name_at, good_by, good_from, good_at, first_bad_node, good_name, first_bad_name, Fits}
+use Rattle.tables.proofs.Whole.{node-view, link-view, text-view}
 use Rattle.extents.specs.declared.Extent.{Extent}
 use Rattle.extents.specs.Extents.{extent, extent_of, leb_size, with_shape, held_in, none, sum_run, closed, prim_at, node_extent, ExtentsTo}
 use Rattle.extents.proofs.Sound.{cases, clash, and_left, and_right, bare-below, named-below, named-inside, text-inside, array-has, map-has, record-has, function-has, symbol-has, every-good}

@@ -1,7 +1,7 @@
 -- What the links of a good node say, kind by kind.
 --     cases, clash, and_left, and_right                 tests that hold and fail
---     bare-below, named-below, bare-held, named-held    the target of a good link stands before its node, where something is held
---     named-inside, text-inside, name-room              its name is there
+--     bare-below, named-below                           the target of a good link stands before its node
+--     named-inside, text-inside                         its name is there
 --     first_good, others-good                           the first link of a good run, and the others
 --     array-has, map-has, record-has, function-has, symbol-has     the links of a good node, by its kind
 --     link-room, links-room                             a good link and its target are there
@@ -16,8 +16,8 @@ use native.Mathlib.Omega.{arith}
 use lib.Dec.{ltb, leb, eqb}
 use lib.ListN.{length}
 use borrow.Author.Tests.{ltb-true, ltb-false, leb-true, eqb-true, eqb-false}
-use Rattle.meaning.specs.Limits.{max_nodes, max_links, max_names}
-use Rattle.meaning.specs.TableReading.{node_size, name_size}
+use Rattle.meaning.specs.Limits.{max_nodes, max_links}
+use Rattle.meaning.specs.TableReading.{node_size}
 use Rattle.meaning.specs.Table.{Node, Link, array_kind, map_kind, record_kind, function_kind, symbol_kind}
 use Rattle.tables.specs.declared.Way.{Way}
 use Rattle.tables.specs.declared.Way.TheVariants.{Bare, Named, Texts}
@@ -51,14 +51,6 @@ module _ (i names : ℕ) (l : Link) where
   -- So does that of one with a name.
   pub named-below : good_by Named i names l ≡ true → l.target < i
   named-below h = ltb-true l.target i (and_left _ (ltb l.name names) h)
-
-  -- What is held of node i is held of the target.
-  pub bare-held : {n : ℕ} → i < n → good_by Bare i names l ≡ true → l.target < n
-  bare-held e h = let k = bare-below h in omega arith
-
-  -- So it is with a name.
-  pub named-held : {n : ℕ} → i < n → good_by Named i names l ≡ true → l.target < n
-  named-held e h = let k = named-below h in omega arith
 
   -- The name of a good link with a name is there.
   pub named-inside : good_by Named i names l ≡ true → l.name < names
@@ -139,10 +131,6 @@ pub links-room : (nodes rest : List ℕ) (links names i x due : ℕ) → links �
 links-room nodes rest links names i x due l r m f d e g =
     let h = link-room nodes rest links names i (x + 1) (due - 1) l r m f (omega arith) (omega arith) (others-good rest Bare i names x due (omega arith) g) in
     (h.0, h.1, (link-room nodes rest links names i x due l r m f (omega arith) e g).2, h.2)
-
--- A name that is there has its place.
-pub name-room : (rest : List ℕ) (links names k : ℕ) → links ≤ max_links → names ≤ max_names → name_place links names ≤ length rest → k < names → (name_place links k + name_size ≤ length rest) × (links < 65536) × (k < 65536)
-name-room rest links names k l m r h = (omega arith, omega arith, omega arith)
 
 module _ (nodes rest : List ℕ) (links names : ℕ) where
   -- Where none of c nodes from node i on is broken, each is good.

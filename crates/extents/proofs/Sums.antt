@@ -1,13 +1,12 @@
 -- Sums over the links of a node, as the code counts.
---     run-turn, run_end     one link of those that are due, and none
---     run-same              a good run looks only at what is held of the nodes before
+--     run-turn     one link of those that are due
+--     run-same     a good run looks only at what is held of the nodes before
 -- Assumes nothing.
 use mathlib.Core.Path.{◌≡◌, refl, ap}
 use mathlib.Core.Bool.{true}
 use mathlib.Core.List.{List}
-use Prim.Native.Nat.{ℕ, zero, suc, ◌+◌, ◌-◌, ◌<◌}
+use Prim.Native.Nat.{ℕ, zero, suc, ◌+◌, ◌<◌}
 use native.Mathlib.Numerals.{add-one}
-use native.Mathlib.Omega.{arith}
 use Rattle.meaning.specs.Table.{Link}
 use Rattle.tables.specs.declared.Way.{Way}
 use Rattle.tables.specs.declared.Way.TheVariants.{Bare, Named, Texts}
@@ -16,17 +15,10 @@ use Rattle.extents.specs.declared.Extent.{Extent}
 use Rattle.extents.specs.Extents.{with_text, with_shape, with_link, sum_run}
 use Rattle.extents.proofs.Sound.{and_left, and_right, bare-below, named-below}
 
-module _ (held : ℕ → Extent) (rest : List ℕ) (links : ℕ) (way : Way) (x : ℕ) where
-  -- Where a link is due, the sum has it, and the others are due.
-  pub run-turn : (due : ℕ) (e : Extent) {l : Link} → 0 < due → l ≡ link_at rest x → sum_run held rest links way x due e ≡ sum_run held rest links way (x + 1) (due - 1) (with_link held rest links way e l)
-  unfolding sum_run
-  run-turn zero e h q = absurd (omega arith)
-  run-turn (suc due) e h q = let z : suc due - 1 ≡ due = omega arith in let s : x + 1 ≡ suc x = add-one x in rw (q, s, z)
-
-  -- Where none is, that is the sum.
-  pub run_end : (due : ℕ) (e : Extent) → due ≡ 0 → sum_run held rest links way x due e ≡ e
-  unfolding sum_run
-  run_end due e h = rw h
+-- Where a link is due, the sum has it, and the others are due.
+pub run-turn : (held : ℕ → Extent) (rest : List ℕ) (links : ℕ) (way : Way) (x due : ℕ) (e : Extent) {l : Link} → l ≡ link_at rest x → sum_run held rest links way x (suc due) e ≡ sum_run held rest links way (x + 1) due (with_link held rest links way e l)
+unfolding sum_run
+run-turn held rest links way x due e q = let z : x + 1 ≡ suc x = add-one x in rw (q, z)
 
 module _ (held told : ℕ → Extent) (rest : List ℕ) (links names i : ℕ) (same : (k : ℕ) → k < i → held k ≡ told k) where
   -- What a good link stands for is held of a node before.

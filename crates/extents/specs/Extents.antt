@@ -1,15 +1,15 @@
 -- How long and how deep the shapes of nodes are, up to one over their limits, as the code finds them: each node's extent from those of the nodes
 -- before it. Proved to be the extents of the shapes that the nodes stand for (proofs/Shapes.antt). No public contract cites it.
-use Rattle.std.specs.Prelude.{ℕ, zero, suc, ◌+◌, ◌-◌, ◌<◌, max, min, ◌≡◌, List, Bool, ◌&&◌, ltb, eqb, length, get_or}
+use Rattle.std.specs.Prelude.{ℕ, zero, suc, ◌+◌, ◌-◌, ◌≤◌, ◌<◌, max, min, ◌≡◌, List, Bool, ◌&&◌, ltb, eqb, length, get_or}
 use Rattle.meaning.specs.Rules.{◌⇒◌∣◌}
-use Rattle.meaning.specs.Limits.{max_bytes, max_levels}
+use Rattle.meaning.specs.Limits.{max_bytes, max_levels, max_nodes, max_links, max_names}
 use Rattle.meaning.specs.FirstByte.{short_blanks}
 use Rattle.meaning.specs.Shape.{Shape, depth}
 use Rattle.meaning.specs.Encode.{encode}
 use Rattle.meaning.specs.Table.{Node, Link, array_kind, map_kind, record_kind, function_kind, symbol_kind}
 use Rattle.tables.specs.declared.Way.{Way}
 use Rattle.tables.specs.declared.Way.TheVariants.{Bare, Named, Texts}
-use Rattle.tables.specs.Places.{node_at, link_at, name_at, target_kind}
+use Rattle.tables.specs.Places.{name_place, node_at, link_at, name_at, target_kind}
 use Rattle.extents.specs.declared.Extent.{Extent}
 
 abbrev pub extent : ℕ → ℕ → Extent
@@ -87,3 +87,11 @@ node_extent held nodes rest links n =
 abbrev pub ExtentsTo : List ℕ → List ℕ → ℕ → List ℕ → List ℕ → ℕ → Type 0
 ExtentsTo nodes rest links lengths depths c =
     (j : ℕ) → j < c → held_in lengths depths j ≡ node_extent (held_in lengths depths) nodes rest links (node_at nodes j)
+
+-- the sections before the text are within their limits and there, and something is held of each node that a table may have
+pub record Holds (rest : List ℕ) (links names : ℕ) (lengths depths : List ℕ) : Type 0 where
+  pub links_few : links ≤ max_links
+  pub names_few : names ≤ max_names
+  pub front : name_place links names ≤ length rest
+  pub lengths_all : length lengths ≡ max_nodes
+  pub depths_all : length depths ≡ max_nodes

@@ -1,6 +1,6 @@
 -- What a good node becomes, and the bytes of a link's name and of a count, by places in the bytes of the nodes and in the rest of the table. Contracts
 -- between our own crates cite it, no public one does.
-use Rattle.std.specs.Prelude.{ℕ, ◌+◌, ◌-◌, ◌≤◌, ◌<◌, ◌≡◌, List, [], ◌++◌, Bool, true, false, ltb, eqb, length}
+use Rattle.std.specs.Prelude.{ℕ, ◌+◌, ◌-◌, ◌≤◌, ◌<◌, ◌≡◌, List, [], ◌++◌, Option, Some, None, ltb, eqb, length}
 use Rattle.std.proofs.Math.Seq.{slice}
 use Rattle.meaning.specs.Rules.{◌⇒◌∣◌}
 use Rattle.meaning.specs.Limits.{max_links, max_names, max_text}
@@ -30,13 +30,13 @@ name_bytes rest links names Texts k = text_at rest links names k
 unfoldable pub array_form : List ℕ → List ℕ → ℕ → Form
 array_form nodes rest a =
     ltb (target_kind nodes rest a) array_kind ⇒ form.Byte (array_byte (target_kind nodes rest a)) ∣ λ _.
-    form.List Array Bare false 0
+    form.List Array Bare None
 
 unfoldable pub map_form : List ℕ → List ℕ → ℕ → Form
 map_form nodes rest a =
     ltb (target_kind nodes rest a) array_kind ⇒
-    (ltb (target_kind nodes rest (a + 1)) array_kind ⇒ form.Byte (map_byte (target_kind nodes rest a) (target_kind nodes rest (a + 1))) ∣ λ _. form.List Map Bare false 0) ∣ λ _.
-    form.List Map Bare false 0
+    (ltb (target_kind nodes rest (a + 1)) array_kind ⇒ form.Byte (map_byte (target_kind nodes rest a) (target_kind nodes rest (a + 1))) ∣ λ _. form.List Map Bare None) ∣ λ _.
+    form.List Map Bare None
 
 -- what a node becomes: one byte, a blank, or a list of a kind, with its count before it where it has one
 unfoldable pub form_of : List ℕ → List ℕ → Node → Form
@@ -44,15 +44,15 @@ form_of nodes rest n =
     ltb n.kind array_kind ⇒ form.Byte (prim_byte n.kind) ∣ λ _.
     eqb n.kind array_kind ⇒ array_form nodes rest n.a ∣ λ _.
     eqb n.kind map_kind ⇒ map_form nodes rest n.a ∣ λ _.
-    eqb n.kind record_kind ⇒ form.List Record Named true n.b ∣ λ _.
-    eqb n.kind function_kind ⇒ form.List Function Bare true (n.b - 1) ∣ λ _.
-    eqb n.kind symbol_kind ⇒ form.List Symbol Texts true n.b ∣ λ _.
+    eqb n.kind record_kind ⇒ form.List Record Named (Some n.b) ∣ λ _.
+    eqb n.kind function_kind ⇒ form.List Function Bare (Some (n.b - 1)) ∣ λ _.
+    eqb n.kind symbol_kind ⇒ form.List Symbol Texts (Some n.b) ∣ λ _.
     form.Blank
 
 -- a list's count, where it has one
-abbrev pub count_bytes : Bool → ℕ → List ℕ
-count_bytes true c = leb128 c
-count_bytes false c = []
+abbrev pub count_bytes : Option ℕ → List ℕ
+count_bytes (Some c) = leb128 c
+count_bytes None = []
 
 -- name k is there, and its text
 pub record HasName (rest : List ℕ) (links names k : ℕ) : Type 0 where

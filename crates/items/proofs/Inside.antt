@@ -20,26 +20,23 @@ use Rattle.meaning.specs.Utf8.{well_formed, goes_on, char_size, utf8}
 use Rattle.meaning.proofs.Rules.{facts, rule, both}
 use Rattle.meaning.proofs.Utf8.{char-le}
 use Rattle.meaning.proofs.Window.{window-some, window-length}
-use Rattle.leaves.specs.Leb.{leb_at}
-use Rattle.leaves.specs.declared.Leb.TheVariants.{Number}
+use Rattle.leaves.specs.Leb.{leb_of, leb_at}
+use Rattle.std.specs.Prelude.{Ok}
 use Rattle.meaning.specs.FirstByte.{class_of}
 use Rattle.payloads.specs.First.{first_said}
-use Rattle.payloads.specs.Payload.{text_at, named, shaped, label_at, primitive, primitive_at, small_at, short_form_of, size_at, list_of, counted_at}
+use Rattle.payloads.specs.Payload.{text_of, opening_of, text_at, named, shaped, label_at, primitive, primitive_at, small_at, short_form_of, size_at, list_of, counted_at}
 use Rattle.payloads.specs.declared.first.Kind.{Kind}
 use Rattle.payloads.specs.declared.first.Kind.TheVariants.{Array, Map, Record, Function, Symbol, Variable}
 use Rattle.payloads.specs.declared.first.First.TheVariants.{Short, Long}
-use Rattle.payloads.specs.declared.Opening.TheVariants as Opens
-use Rattle.payloads.specs.declared.Text.TheVariants.{Whole}
 use Rattle.reader.specs.Walk.{came, walk_items, walk_shape, depths}
 use Rattle.byte_steps.specs.declared.modes.Items.{Items}
 use Rattle.byte_steps.specs.declared.modes.Items.TheVariants.{Plain, Bare, Fields, Texts}
-use Rattle.byte_steps.specs.declared.Char.TheVariants.{Goes}
 use Rattle.byte_steps.specs.declared.modes.Level.{Level}
 use Rattle.byte_steps.specs.declared.modes.Mode.{Mode}
 use Rattle.byte_steps.specs.declared.modes.Mode.TheVariants as Now
 use Rattle.byte_steps.specs.declared.Took.{Took}
-use Rattle.byte_steps.specs.Automaton.{taken, char_taken, text_taken, text_due, leb_first, leb_second, length_taken, length_more, count_taken, count_more, more, plain, unplain, level, with_due, item_due, shape_due, length_due, count_due, opened, first_taken, size_taken, blank_taken, no_primitive, after_child, text_done, settle, entered, step, fed, run, Run}
-use Rattle.items.proofs.Taking.{first-tidy, bound, bound-none, char-more, first-is, onward, well-first, Wide, single, double, leb-bytes, leb-spans, Worded, text-worded, went, read, long-bare, Met, byte, payload, shape-met, shape-spans, text-spans, list_counted}
+use Rattle.byte_steps.specs.Automaton.{taken, asks, char_taken, text_taken, text_due, leb_first, leb_second, length_taken, length_more, count_taken, count_more, more, plain, unplain, level, with_due, item_due, shape_due, length_due, count_due, opened, first_taken, size_taken, blank_taken, no_primitive, after_child, text_done, settle, entered, step, fed, run, Run}
+use Rattle.items.proofs.Taking.{opening-same, first-tidy, bound, bound-none, char-more, first-is, onward, well-first, Wide, single, double, leb-bytes, leb-spans, Worded, text-worded, went, read, long-bare, Met, byte, payload, shape-met, shape-spans, text-spans, list_counted}
 use Rattle.byte_steps.proofs.Meant.{kind_of, prims}
 use Rattle.byte_steps.proofs.Ends.{prims-none}
 
@@ -48,7 +45,7 @@ unfoldable ahead : Level → ℕ → ℕ → ℕ → Mode
 ahead top from next left = eqb left 0 ⇒ text_done top.items top next ∣ λ _. Now.Letters from left 0 0 0
 
 -- After a character's last byte a text stands so.
-over-char : (top : Level) (from next left : ℕ) → text_taken top from (left + 1) next (Goes 0 0 0) ≡ ahead top from next left
+over-char : (top : Level) (from next left : ℕ) → text_taken top from (left + 1) next (asks 0 0 0) ≡ ahead top from next left
 unfolding text_taken ahead
 over-char top from next zero = refl
 over-char top from next (suc left) =
@@ -65,7 +62,7 @@ module _ (s : List ℕ) (stack : List Level) (top : Level) (whole deepest : ℕ)
   -- The bytes of a character after its first are taken: l bytes of the text are left then.
   tail-fed : (end from m low high left i count l j c : ℕ) → end ≤ length s → count + (end - i) ≤ max_bytes → goes_on m low high (slice i end s) ≡ true → (m ≡ 0 → (low ≡ 0) × (high ≡ 0))
       → m + l + 1 ≡ left → i + m ≡ j → count + m ≡ c
-      → fed (entered (text_taken top from left count (Goes m low high)) stack top count whole deepest) (drop i s) ≡ fed (entered (ahead top from c l) stack top c whole deepest) (drop j s)
+      → fed (entered (text_taken top from left count (asks m low high)) stack top count whole deepest) (drop i s) ≡ fed (entered (ahead top from c l) stack top c whole deepest) (drop j s)
   unfolding entered text_taken taken char_taken
   tail-fed end from zero low high left i count l j c k n h t x y z =
       let q = t refl in let u : left ≡ l + 1 = omega arith in let v : j ≡ i = omega arith in let w : c ≡ count = omega arith in
@@ -146,7 +143,7 @@ module _ (s : List ℕ) (stack : List Level) (top : Level) (whole deepest : ℕ)
       rw (le-ltb top.stop (count + size) (omega arith)) (letters-fed size (start + size) count size start count size 0 next c z (omega arith) (omega arith) w (omega arith) e f)
 
   -- a text with its length
-  pub text-fed : (end at start next count : ℕ) → text_at s end at ≡ Whole start next → end ≤ length s → count + (end - at) ≤ top.stop → count + (end - at) ≤ max_bytes
+  pub text-fed : (end at start next count : ℕ) → text_at s end at ≡ Ok (text_of start next) → end ≤ length s → count + (end - at) ≤ top.stop → count + (end - at) ≤ max_bytes
       → fed (run stack top Now.Length count whole deepest) (drop at s) ≡ fed (entered (text_done top.items top (count + (next - at))) stack top (count + (next - at)) whole deepest) (drop next s)
   unfolding taken length_taken length_more leb_first leb_second entered
   text-fed end at start next count e k h n = let w = text-worded s end at start next e in go w (leb-bytes s end at w.size start k w.number)
@@ -166,7 +163,7 @@ module _ (s : List ℕ) (stack : List Level) (top : Level) (whole deepest : ℕ)
           ∙ rw (q, r, ← v, y, ← x) (words-fed count start w.size next (count + 1 + 1) (count + (next - at)) w.well (sym w.over) (omega (arith, w.over)) (omega (arith, w.over)) (omega (arith, w.over)) (omega (arith, w.over))))
 
   -- A count is taken: so many items are due.
-  count-fed : (end at v next count c : ℕ) → leb_at s end at ≡ Number v next → end ≤ length s → count + (end - at) ≤ top.stop → count + (end - at) ≤ max_bytes → count + (next - at) ≡ c
+  count-fed : (end at v next count c : ℕ) → leb_at s end at ≡ Ok (leb_of v next) → end ≤ length s → count + (end - at) ≤ top.stop → count + (end - at) ≤ max_bytes → count + (next - at) ≡ c
       → fed (run stack top Now.Count count whole deepest) (drop at s) ≡ fed (settle stack (with_due top (v + more top.items)) c whole deepest) (drop next s)
   unfolding taken count_taken count_more leb_first leb_second entered
   count-fed end at v next count c e k h n f = go (leb-bytes s end at v next k e)
@@ -335,7 +332,7 @@ module _ (left : ℕ) (child : Shapes left) (s : List ℕ) (stack : List Level) 
   bare-fed n kind items start c h k i w p j f = shapes-fed top stack count stop whole s end left deepest child room in-s few n kind items start 0 a c _ _ h k i w p j f (omega arith) (omega arith)
 
   -- A list with a count is taken, if its items are.
-  listed-fed : (items : Items) (from n extra : ℕ) → more items ≡ extra → counted_at s end (at + 3) extra ≡ Opens.Items end from n
+  listed-fed : (items : Items) (from n extra : ℕ) → more items ≡ extra → counted_at s end (at + 3) extra ≡ Ok (opening_of end from n)
       → ((c : ℕ) → from ≤ end → c + (end - from) ≡ stop → Over (settle (top ∷ stack) (level count stop n items) c whole (max deepest (length stack + 1))) from)
       → Over (run (top ∷ stack) (level count stop 0 items) (count_due stop (count + 3)) (count + 3) whole (max deepest (length stack + 1))) (at + 3)
   unfolding count_due
@@ -355,14 +352,14 @@ module _ (left : ℕ) (child : Shapes left) (s : List ℕ) (stack : List Level) 
       ∙ rw (blank-over s end (at + 3) count (omega arith) p, x, y, d)
 
   -- A payload of any kind is taken.
-  payload-fed : (kind : Kind) (from n : ℕ) → list_of s at (at + 3) end kind ≡ Opens.Items end from n → walk_items depths (walk_shape depths left) kind n s end from 0 ≡ came end a
+  payload-fed : (kind : Kind) (from n : ℕ) → list_of s at (at + 3) end kind ≡ Ok (opening_of end from n) → walk_items depths (walk_shape depths left) kind n s end from 0 ≡ came end a
       → short_form_of s (at + 3) end kind ≡ false → Over (opened kind stack top count stop (count + 3) whole deepest) (at + 3)
   unfolding opened list_of short_form_of prims walk_items
   payload-fed Array from n e w p =
-      let x : from ≡ at + 3 = cc in let y : n ≡ 1 = cc in
+      let x : from ≡ at + 3 = (opening-same e).1 in let y : n ≡ 1 = (opening-same e).2 in
       bare-fed 1 Array Plain (at + 3) (count + 3) refl refl refl (rw (x, y) at w) p here (omega arith)
   payload-fed Map from n e w p =
-      let x : from ≡ at + 3 = cc in let y : n ≡ 2 = cc in
+      let x : from ≡ at + 3 = (opening-same e).1 in let y : n ≡ 2 = (opening-same e).2 in
       bare-fed 2 Map Plain (at + 3) (count + 3) refl refl refl (rw (x, y) at w) (sym (and (primitive_at s end (at + 3)) (primitive_at s end (at + 3 + 1))) ∙ p) here (omega arith)
     where
       and : (p q : Bool) → (p ⇒ q ∣ λ _. false) ≡ (p && q)
@@ -372,10 +369,10 @@ module _ (left : ℕ) (child : Shapes left) (s : List ℕ) (stack : List Level) 
   payload-fed Function from n e w p = listed-fed Bare from n 1 refl e λ c i f. bare-fed n Function Bare from c refl refl refl w (prims-none s n end from) i f
   payload-fed Symbol from n e w p = listed-fed Texts from n 0 refl e λ c i f. texts-fed top stack count stop whole s end left deepest child room in-s few n from 0 a c _ _ w i f (omega arith) (omega arith)
   payload-fed Variable from n e w p =
-      rule (λ o. o ≡ Opens.Items end from n → Over (opened Variable stack top count stop (count + 3) whole deepest) (at + 3)) (eqb (end - (at + 3)) 2) _ _
+      rule (λ o. o ≡ Ok (opening_of end from n) → Over (opened Variable stack top count stop (count + 3) whole deepest) (at + 3)) (eqb (end - (at + 3)) 2) _ _
       (λ q g.
       let t : stop ≡ count + 3 + 2 = omega (arith, facts) in
-      let x : n ≡ 0 = cc in let y : a ≡ 0 = cc (rw x at w) in
+      let x : n ≡ 0 = (opening-same g).2 in let y : a ≡ 0 = cc (rw x at w) in
       rw (eq-eqb stop (count + 3 + 2) t) (blank-fed y t p))
       (λ _ g. absurd (let z : ◌≡◌ {A = ℕ} 0 1 = cc in omega arith)) e
 

@@ -1,3 +1,4 @@
-pub mod Taking
+pub mod Fronts
 pub mod Inside
+pub mod Taking
 pub mod Whole

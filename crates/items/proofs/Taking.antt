@@ -21,28 +21,26 @@ use Rattle.meaning.specs.Utf8.{well_formed, goes_on, size_with, char_size, utf8}
 use Rattle.meaning.proofs.Rules.{facts, rule}
 use Rattle.meaning.proofs.Utf8.{char-le}
 use Rattle.meaning.proofs.Window.{window-none, window-some, window-length, window-drop}
-use Rattle.leaves.specs.Leb.{leb_at}
+use Rattle.leaves.specs.Leb.{leb_of, leb_at}
 use Rattle.leaves.specs.declared.Leb.{Leb}
-use Rattle.leaves.specs.declared.Leb.TheVariants.{Number, Fault}
+use Rattle.leaves.specs.declared.refusals.Refusal.{Refusal}
+use Rattle.std.specs.Prelude.{Option, Some, None, Result, Ok, Err}
 use Rattle.leaves.proofs.Numbers.{steps, leb-steps}
 use Rattle.leaves.proofs.Text.{well-on, well-stop}
 use Rattle.meaning.specs.FirstByte.{Class, class_of}
 use Rattle.payloads.specs.First.{first_said}
-use Rattle.payloads.specs.Payload.{text_at, text_from, primitive, short_form_of, size_at, opening_at, list_of, counted_at, counted_by}
+use Rattle.payloads.specs.Payload.{text_of, opening_of, text_at, text_from, primitive, short_form_of, size_at, opening_at, list_of, counted_at, counted_by}
 use Rattle.payloads.specs.declared.first.Kind.{Kind}
 use Rattle.payloads.specs.declared.first.Kind.TheVariants.{Array, Map, Record, Function, Symbol, Variable}
 use Rattle.payloads.specs.declared.first.First.{First}
 use Rattle.payloads.specs.declared.first.First.TheVariants.{Unassigned, Short, Long}
 use Rattle.payloads.specs.declared.Opening.{Opening}
-use Rattle.payloads.specs.declared.Opening.TheVariants.{Items, Closed}
 use Rattle.payloads.specs.declared.Text.{Text}
-use Rattle.payloads.specs.declared.Text.TheVariants.{Whole, Bad}
 use Rattle.reader.specs.Walk.{Out, came, stopped, after, after_text, after_opening, closing, walk_items, by_first, shape_with, walk_shape, depths}
 use Rattle.reader.proofs.Firsts.{ToldFirst, none, one, two, more, first-told}
 use Rattle.reader.proofs.Steps.{below, shape-by, shape-more}
-use Rattle.byte_steps.specs.declared.Char.{Char}
-use Rattle.byte_steps.specs.declared.Char.TheVariants.{Wrong, Goes}
-use Rattle.byte_steps.specs.Automaton.{char_first, char_taken}
+use Rattle.byte_steps.specs.declared.Asked.{Asked}
+use Rattle.byte_steps.specs.Automaton.{asks, char_first, char_taken}
 use Rattle.byte_steps.proofs.Letters.{first-size}
 use Rattle.byte_steps.proofs.Meant.{closes}
 use Rattle.byte_steps.proofs.Sizes.{closing-closes}
@@ -51,19 +49,26 @@ use Rattle.byte_steps.proofs.Sizes.{closing-closes}
 no-came : {X C : Type 0} {m p n : ℕ} {v : X} → stopped m p ≡ came n v → C
 no-came g = absurd (let z : ◌≡◌ {A = ℕ} 0 1 = cc in omega arith)
 
-no_number : {C : Type 0} {m v n : ℕ} → Fault m ≡ Number v n → C
-no_number g = absurd (let z : ◌≡◌ {A = ℕ} 0 1 = cc in omega arith)
+no-ok : {X C : Type 0} {r : Refusal} {v : X} → ◌≡◌ {A = Result X Refusal} (Err r) (Ok v) → C
+no-ok g = absurd (let z : ◌≡◌ {A = ℕ} 0 1 = cc in omega arith)
 
-no_whole : {C : Type 0} {m p a n : ℕ} → Bad m p ≡ Whole a n → C
-no_whole g = absurd (let z : ◌≡◌ {A = ℕ} 0 1 = cc in omega arith)
+-- Two numbers, texts, openings that came are the same, if their values and places are.
+ok-same : {X : Type 0} {x y : X} → ◌≡◌ {A = Result X Refusal} (Ok x) (Ok y) → y ≡ x
+ok-same g = cc
 
-no_items_lem : {C : Type 0} {m p a b n : ℕ} → Closed m p ≡ Items a b n → C
-no_items_lem g = absurd (let z : ◌≡◌ {A = ℕ} 0 1 = cc in omega arith)
+leb-same : {a b c d : ℕ} → ◌≡◌ {A = Result Leb Refusal} (Ok (leb_of a b)) (Ok (leb_of c d)) → (c ≡ a) × (d ≡ b)
+leb-same g = (ap (λ (l : Leb). l.value) (ok-same g), ap (λ (l : Leb). l.next) (ok-same g))
+
+text-same : {a b c d : ℕ} → ◌≡◌ {A = Result Text Refusal} (Ok (text_of a b)) (Ok (text_of c d)) → (c ≡ a) × (d ≡ b)
+text-same g = (ap (λ (t : Text). t.start) (ok-same g), ap (λ (t : Text). t.next) (ok-same g))
+
+pub opening-same : {a b n c d m : ℕ} → ◌≡◌ {A = Result Opening Refusal} (Ok (opening_of a b n)) (Ok (opening_of c d m)) → (c ≡ a) × (d ≡ b) × (m ≡ n)
+opening-same g = (ap (λ (o : Opening). o.stop) (ok-same g), ap (λ (o : Opening). o.from) (ok-same g), ap (λ (o : Opening). o.count) (ok-same g))
 
 -- what a character's last byte leaves: no bounds for a next one
-abbrev pub Tidy : Char → Type 0
-Tidy Wrong = Unit {0}
-Tidy (Goes m low high) = m ≡ 0 → (low ≡ 0) × (high ≡ 0)
+abbrev pub Tidy : Option Asked → Type 0
+Tidy None = Unit {0}
+Tidy (Some c) = c.more ≡ 0 → (c.low ≡ 0) × (c.high ≡ 0)
 
 -- A character's first byte leaves it so.
 pub first-tidy : (b : ℕ) → Tidy (char_first b)
@@ -91,7 +96,7 @@ bound-none zero h = (refl, refl)
 bound-none (suc m) h = absurd (omega arith)
 
 -- A byte within the bounds is taken.
-pub char-more : (m low high b : ℕ) → low ≤ b → b ≤ high → char_taken (suc m) low high b ≡ Goes m (bound m 128) (bound m 191)
+pub char-more : (m low high b : ℕ) → low ≤ b → b ≤ high → char_taken (suc m) low high b ≡ asks m (bound m 128) (bound m 191)
 unfolding char_taken
 char-more zero low high b h k = rw (le-ltb b low h, le-ltb high b k)
 char-more (suc m) low high b h k = rw (ne_eqb (suc (suc m)) 0 (λ q. absurd (omega arith)), le-ltb b low h, le-ltb high b k, ne_eqb (suc (suc m)) 1 (λ q. absurd (omega arith)), sub-one)
@@ -107,7 +112,7 @@ pub record FirstIs (b : ℕ) (w : List ℕ) : Type 0 where
   pub m : ℕ
   pub low : ℕ
   pub high : ℕ
-  pub says : char_first b ≡ Goes m low high
+  pub says : char_first b ≡ asks m low high
   pub on : goes_on m low high w ≡ true
   pub size : char_size (b ∷ w) ≡ suc m
 
@@ -115,13 +120,13 @@ pub record FirstIs (b : ℕ) (w : List ℕ) : Type 0 where
 pub first-is : (b : ℕ) (w : List ℕ) → 0 < char_size (b ∷ w) → FirstIs b w
 first-is b w h = go (char_first b) refl
   where
-    with : (m low high : ℕ) → char_first b ≡ Goes m low high → char_size (b ∷ w) ≡ size_with m low high w → (t : Bool) → goes_on m low high w ≡ t → FirstIs b w
+    with : (m low high : ℕ) → char_first b ≡ asks m low high → char_size (b ∷ w) ≡ size_with m low high w → (t : Bool) → goes_on m low high w ≡ t → FirstIs b w
     with m low high e q true p = record { m = m; low = low; high = high; says = e; on = p; size = q ∙ rw p }
     with m low high e q false p = absurd (let z : char_size (b ∷ w) ≡ 0 = q ∙ rw p in omega arith)
 
-    go : (c : Char) → char_first b ≡ c → FirstIs b w
-    go Wrong e = absurd (let z = rw e at (first-size b w) in omega arith)
-    go (Goes m low high) e = with m low high e (rw e at (first-size b w)) (goes_on m low high w) refl
+    go : (c : Option Asked) → char_first b ≡ c → FirstIs b w
+    go None e = absurd (let z = rw e at (first-size b w) in omega arith)
+    go (Some c) e = with c.more c.low c.high e (rw e at (first-size b w)) (goes_on c.more c.low c.high w) refl
 
 module _ (s : List ℕ) (end : ℕ) (in-s : end ≤ length s) where
   -- a character goes on with the byte at a place
@@ -180,21 +185,21 @@ pub data Wide (s : List ℕ) (end at v next : ℕ) : Type 0 where
       → Wide s end at v next
 
 -- A number that came has such bytes.
-pub leb-bytes : (s : List ℕ) (end at v next : ℕ) → end ≤ length s → leb_at s end at ≡ Number v next → Wide s end at v next
+pub leb-bytes : (s : List ℕ) (end at v next : ℕ) → end ≤ length s → leb_at s end at ≡ Ok (leb_of v next) → Wide s end at v next
 unfolding steps
 leb-bytes s end at v next k e =
-    (rule P (leb end at) _ _ (λ _ g. no_number g) λ p.
-    rule P (ltb (get_or s at 0) 128) _ _ (λ q g. single (leb-false _ _ p) q (cc) (cc)) λ q.
-    rule P (leb end (at + 1)) _ _ (λ _ g. no_number g) λ r.
-    rule P (leb 128 (get_or s (at + 1) 0)) _ _ (λ _ g. no_number g) λ t.
-    rule P (eqb (get_or s (at + 1) 0) 0) _ _ (λ _ g. no_number g) λ u g. double (leb-false _ _ r) q t u (cc) (cc))
+    (rule P (leb end at) _ _ (λ _ g. no-ok g) λ p.
+    rule P (ltb (get_or s at 0) 128) _ _ (λ q g. single (leb-false _ _ p) q (leb-same g).0 (leb-same g).1) λ q.
+    rule P (leb end (at + 1)) _ _ (λ _ g. no-ok g) λ r.
+    rule P (leb 128 (get_or s (at + 1) 0)) _ _ (λ _ g. no-ok g) λ t.
+    rule P (eqb (get_or s (at + 1) 0) 0) _ _ (λ _ g. no-ok g) λ u g. double (leb-false _ _ r) q t u (leb-same g).0 (leb-same g).1)
     (sym (leb-steps s end at k) ∙ e)
   where
-    P : Leb → Type 0
-    P o = o ≡ Number v next → Wide s end at v next
+    P : Result Leb Refusal → Type 0
+    P o = o ≡ Ok (leb_of v next) → Wide s end at v next
 
 -- A number that came lies inside its window.
-pub leb-spans : (s : List ℕ) (end at v next : ℕ) → end ≤ length s → leb_at s end at ≡ Number v next → (at < next) × (next ≤ end)
+pub leb-spans : (s : List ℕ) (end at v next : ℕ) → end ≤ length s → leb_at s end at ≡ Ok (leb_of v next) → (at < next) × (next ≤ end)
 leb-spans s end at v next k e = go (leb-bytes s end at v next k e)
   where
     go : Wide s end at v next → (at < next) × (next ≤ end)
@@ -204,30 +209,32 @@ leb-spans s end at v next k e = go (leb-bytes s end at v next k e)
 -- a text that came: its length, and well-formed bytes
 pub record Worded (s : List ℕ) (end at start next : ℕ) : Type 0 where
   pub size : ℕ
-  pub number : leb_at s end at ≡ Number size start
+  pub number : leb_at s end at ≡ Ok (leb_of size start)
   pub fits : size ≤ end - start
   pub well : utf8 (slice start (start + size) s) ≡ true
   pub over : next ≡ start + size
 
 -- A text that came is such.
-pub text-worded : (s : List ℕ) (end at start next : ℕ) → text_at s end at ≡ Whole start next → Worded s end at start next
+pub text-worded : (s : List ℕ) (end at start next : ℕ) → text_at s end at ≡ Ok (text_of start next) → Worded s end at start next
 unfolding text_at text_from
 text-worded s end at start next e = go (leb_at s end at) refl e
   where
-    P : Leb → Text → Type 0
-    P l t = leb_at s end at ≡ l → t ≡ Whole start next → Worded s end at start next
+    P : Result Leb Refusal → Result Text Refusal → Type 0
+    P l t = leb_at s end at ≡ l → t ≡ Ok (text_of start next) → Worded s end at start next
 
-    go : (l : Leb) → P l (text_from s end at l)
-    go (Fault n) h g = no_whole g
-    go (Number size from) h g =
-        (rule (P (Number size from)) (ltb (end - from) size) _ _ (λ _ h g. no_whole g) λ p.
-        rule (P (Number size from)) (utf8 (slice from (from + size) s)) _ _ (λ q h g.
-        let a : from ≡ start = cc in let b : next ≡ from + size = cc in
+    go : (l : Result Leb Refusal) → P l (text_from s end at l)
+    go (Err r) h g = no-ok g
+    go (Ok l) h g =
+        let size : ℕ = l.value in
+        let from : ℕ = l.next in
+        (rule (P (Ok l)) (ltb (end - from) size) _ _ (λ _ h g. no-ok g) λ p.
+        rule (P (Ok l)) (utf8 (slice from (from + size) s)) _ _ (λ q h g.
+        let a : from ≡ start = sym (text-same g).0 in let b : next ≡ from + size = (text-same g).1 in
         record { size = size; number = h ∙ rw a; fits = rw (← a) (ltb-false _ _ p); well = rw (← a) q; over = rw (← a) b })
-        λ _ h g. no_whole g) h g
+        λ _ h g. no-ok g) h g
 
 -- A text that came lies inside its window.
-pub text-spans : (s : List ℕ) (end at start next : ℕ) → text_at s end at ≡ Whole start next → end ≤ length s → (at < next) × (next ≤ end)
+pub text-spans : (s : List ℕ) (end at start next : ℕ) → text_at s end at ≡ Ok (text_of start next) → end ≤ length s → (at < next) × (next ≤ end)
 text-spans s end at start next e k =
     let w = text-worded s end at start next e in let q = leb-spans s end at w.size start k w.number in
     (omega (arith, w.over, q.0), omega (arith, w.over, w.fits, q.1))
@@ -245,29 +252,29 @@ went (came m x) k n v e = record { place = m; made = x; is = refl; on = e }
 went (stopped m p) k n v e = no-came e
 
 -- the same after a text
-pub record Read {Y : Type 0} (t : Text) (k : ℕ → ℕ → Out Y) (n : ℕ) (v : Y) : Type 0 where
+pub record Read {Y : Type 0} (t : Result Text Refusal) (k : ℕ → ℕ → Out Y) (n : ℕ) (v : Y) : Type 0 where
   pub start : ℕ
   pub next : ℕ
-  pub is : t ≡ Whole start next
+  pub is : t ≡ Ok (text_of start next)
   pub on : k start next ≡ came n v
 
 -- What goes on after a text to come has a whole text.
-pub read : {Y : Type 0} (t : Text) (k : ℕ → ℕ → Out Y) (n : ℕ) (v : Y) → after_text t k ≡ came n v → Read t k n v
-read (Whole a b) k n v e = record { start = a; next = b; is = refl; on = e }
-read (Bad m p) k n v e = no-came e
+pub read : {Y : Type 0} (t : Result Text Refusal) (k : ℕ → ℕ → Out Y) (n : ℕ) (v : Y) → after_text t k ≡ came n v → Read t k n v
+read (Ok t) k n v e = record { start = t.start; next = t.next; is = refl; on = e }
+read (Err r) k n v e = no-came e
 
 -- the same after an opening
-record Begun {Y : Type 0} (o : Opening) (k : ℕ → ℕ → ℕ → Out Y) (n : ℕ) (v : Y) : Type 0 where
+record Begun {Y : Type 0} (o : Result Opening Refusal) (k : ℕ → ℕ → ℕ → Out Y) (n : ℕ) (v : Y) : Type 0 where
   stop : ℕ
   from : ℕ
   count : ℕ
-  is : o ≡ Items stop from count
+  is : o ≡ Ok (opening_of stop from count)
   on : k stop from count ≡ came n v
 
 -- What goes on after an opening to come has a list.
-begun : {Y : Type 0} (o : Opening) (k : ℕ → ℕ → ℕ → Out Y) (n : ℕ) (v : Y) → after_opening o k ≡ came n v → Begun o k n v
-begun (Items a b c) k n v e = record { stop = a; from = b; count = c; is = refl; on = e }
-begun (Closed m p) k n v e = no-came e
+begun : {Y : Type 0} (o : Result Opening Refusal) (k : ℕ → ℕ → ℕ → Out Y) (n : ℕ) (v : Y) → after_opening o k ≡ came n v → Begun o k n v
+begun (Ok o) k n v e = record { stop = o.stop; from = o.from; count = o.count; is = refl; on = e }
+begun (Err r) k n v e = no-came e
 
 -- a payload whose end came
 record Ended (s : List ℕ) (at stop : ℕ) (kind : Kind) (n a next d : ℕ) : Type 0 where
@@ -289,50 +296,50 @@ ended s at stop kind n a next d e =
     P o = o ≡ came next d → Ended s at stop kind n a next d
 
 -- The list of a payload ends where the payload does.
-list-stop : (s : List ℕ) (at start stop : ℕ) (kind : Kind) (end from count : ℕ) → list_of s at start stop kind ≡ Items end from count → end ≡ stop
+list-stop : (s : List ℕ) (at start stop : ℕ) (kind : Kind) (end from count : ℕ) → list_of s at start stop kind ≡ Ok (opening_of end from count) → end ≡ stop
 unfolding list_of counted_at counted_by
 list-stop s at start stop kind end from count e = by kind e
   where
-    counted : (extra : ℕ) (o : Leb) → counted_by stop start extra o ≡ Items end from count → end ≡ stop
-    counted extra (Number v n) g = cc
-    counted extra (Fault n) g = no_items_lem g
+    counted : (extra : ℕ) (o : Result Leb Refusal) → counted_by stop extra o ≡ Ok (opening_of end from count) → end ≡ stop
+    counted extra (Ok l) g = (opening-same g).0
+    counted extra (Err r) g = no-ok g
 
-    by : (kind : Kind) → list_of s at start stop kind ≡ Items end from count → end ≡ stop
-    by Array g = cc
-    by Map g = cc
+    by : (kind : Kind) → list_of s at start stop kind ≡ Ok (opening_of end from count) → end ≡ stop
+    by Array g = (opening-same g).0
+    by Map g = (opening-same g).0
     by Record g = counted 0 (leb_at s stop start) g
     by Function g = counted 1 (leb_at s stop start) g
     by Symbol g = counted 0 (leb_at s stop start) g
-    by Variable g = rule (λ o. o ≡ Items end from count → end ≡ stop) (eqb (stop - start) 2) _ _ (λ _ g. cc) (λ _ g. no_items_lem g) g
+    by Variable g = rule (λ o. o ≡ Ok (opening_of end from count) → end ≡ stop) (eqb (stop - start) 2) _ _ (λ _ g. (opening-same g).0) (λ _ g. no-ok g) g
 
 -- A list that came lies in the window after its size.
-opening-in : (s : List ℕ) (end at stop from count : ℕ) (kind : Kind) → opening_at s end at kind ≡ Items stop from count
-    → (at + 3 + size_at s (at + 1) ≤ end) × (list_of s at (at + 3) (at + 3 + size_at s (at + 1)) kind ≡ Items stop from count)
+opening-in : (s : List ℕ) (end at stop from count : ℕ) (kind : Kind) → opening_at s end at kind ≡ Ok (opening_of stop from count)
+    → (at + 3 + size_at s (at + 1) ≤ end) × (list_of s at (at + 3) (at + 3 + size_at s (at + 1)) kind ≡ Ok (opening_of stop from count))
 unfolding opening_at
 opening-in s end at stop from count kind e =
-    (rule P (ltb (end - at) 3) _ _ (λ _ g. no_items_lem g) λ p.
-    rule P (ltb (end - at - 3) (size_at s (at + 1))) _ _ (λ _ g. no_items_lem g) λ q g. (omega (arith, facts), g)) e
+    (rule P (ltb (end - at) 3) _ _ (λ _ g. no-ok g) λ p.
+    rule P (ltb (end - at - 3) (size_at s (at + 1))) _ _ (λ _ g. no-ok g) λ q g. (omega (arith, facts), g)) e
   where
     Q : Type 0
-    Q = (at + 3 + size_at s (at + 1) ≤ end) × (list_of s at (at + 3) (at + 3 + size_at s (at + 1)) kind ≡ Items stop from count)
+    Q = (at + 3 + size_at s (at + 1) ≤ end) × (list_of s at (at + 3) (at + 3 + size_at s (at + 1)) kind ≡ Ok (opening_of stop from count))
 
-    P : Opening → Type 0
-    P o = o ≡ Items stop from count → Q
+    P : Result Opening Refusal → Type 0
+    P o = o ≡ Ok (opening_of stop from count) → Q
 
 -- a list whose count came
 pub record Counted (s : List ℕ) (stop start extra from count : ℕ) : Type 0 where
   pub number : ℕ
-  pub is : leb_at s stop start ≡ Number number from
+  pub is : leb_at s stop start ≡ Ok (leb_of number from)
   pub all : count ≡ number + extra
 
 -- A list that came is such.
-pub list_counted : (s : List ℕ) (stop start extra from count : ℕ) → counted_at s stop start extra ≡ Items stop from count → Counted s stop start extra from count
+pub list_counted : (s : List ℕ) (stop start extra from count : ℕ) → counted_at s stop start extra ≡ Ok (opening_of stop from count) → Counted s stop start extra from count
 unfolding counted_at counted_by
 list_counted s stop start extra from count e = go (leb_at s stop start) refl e
   where
-    go : (o : Leb) → leb_at s stop start ≡ o → counted_by stop start extra o ≡ Items stop from count → Counted s stop start extra from count
-    go (Number v n) h g = let x : n ≡ from = cc in record { number = v; is = h ∙ rw x; all = cc }
-    go (Fault n) h g = no_items_lem g
+    go : (o : Result Leb Refusal) → leb_at s stop start ≡ o → counted_by stop extra o ≡ Ok (opening_of stop from count) → Counted s stop start extra from count
+    go (Ok l) h g = let x = opening-same g in record { number = l.value; is = h ∙ ap (λ n. Ok (leb_of l.value n)) (sym x.1); all = x.2 }
+    go (Err r) h g = no-ok g
 
 -- A byte that says that a payload follows is no primitive.
 pub long-bare : (b : ℕ) (kind : Kind) → first_said (class_of b) ≡ Long kind → primitive b ≡ false
@@ -348,12 +355,12 @@ long-bare b kind e = go _ _ (first-told depths b) e
 pub data Met (left : ℕ) (s : List ℕ) (end at next d : ℕ) : Type 0 where
   byte : at < end → first_said (class_of (get_or s at 0)) ≡ Short d → d ≤ left → next ≡ at + 1 → Met left s end at next d
   payload : (kind : Kind) (from count a : ℕ) → at < end → 0 < left → first_said (class_of (get_or s at 0)) ≡ Long kind → next ≡ at + 3 + size_at s (at + 1) → next ≤ end
-      → list_of s at (at + 3) next kind ≡ Items next from count → walk_items depths (walk_shape depths (left - 1)) kind count s next from 0 ≡ came next a
+      → list_of s at (at + 3) next kind ≡ Ok (opening_of next from count) → walk_items depths (walk_shape depths (left - 1)) kind count s next from 0 ≡ came next a
       → short_form_of s (at + 3) next kind ≡ false → d ≡ a + 1 → Met left s end at next d
 
 -- A shape whose list, items and end came is such.
 long-made : (left : ℕ) (s : List ℕ) (end at next d : ℕ) (kind : Kind) (stop from count n a : ℕ) → at < end → 0 < left → first_said (class_of (get_or s at 0)) ≡ Long kind
-    → opening_at s end at kind ≡ Items stop from count → walk_items depths (walk_shape depths (left - 1)) kind count s stop from 0 ≡ came n a → closing depths s at stop kind n a ≡ came next d
+    → opening_at s end at kind ≡ Ok (opening_of stop from count) → walk_items depths (walk_shape depths (left - 1)) kind count s stop from 0 ≡ came n a → closing depths s at stop kind n a ≡ came next d
     → Met left s end at next d
 long-made left s end at next d kind stop from count n a h p f o w c =
     let i = opening-in s end at stop from count kind o in

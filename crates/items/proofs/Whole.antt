@@ -13,20 +13,25 @@ use borrow.Author.Tests.{lt-leb, lt-ltb, le-ltb}
 use Rattle.meaning.specs.Limits.{max_levels}
 use Rattle.meaning.specs.FirstByte.{class_of}
 use Rattle.payloads.specs.First.{first_said}
+use Rattle.std.specs.Prelude.{Result, Ok, Err}
+use Rattle.payloads.specs.declared.Text.{Text}
 use Rattle.payloads.specs.Payload.{primitive, text_at}
 use Rattle.payloads.specs.declared.first.First.TheVariants as By
-use Rattle.payloads.specs.declared.Text.TheVariants as Text
 use Rattle.reader.specs.Walk.{came, by_first, shape_with, walk_shape, depths}
 use Rattle.byte_steps.specs.declared.modes.Items.{Items}
 use Rattle.byte_steps.specs.declared.modes.Items.TheVariants.{Plain, Bare, Fields, Texts}
 use Rattle.byte_steps.specs.declared.modes.Level.{Level}
 use Rattle.items.specs.declared.Item.{Item}
-use Rattle.items.specs.declared.Item.TheVariants.{Whole, Cut}
+use Rattle.items.specs.declared.Cut.{Cut}
 use Rattle.items.specs.declared.Run as Taken
 use Rattle.byte_steps.specs.Automaton.{level, after_child, unplain, shape_due, length_due, item_due, settle, entered, fed, run}
 use Rattle.items.specs.Fed.{item_mode, ShapeFed, ItemFed, RunFed}
 use Rattle.items.proofs.Taking.{text-spans, shape-spans}
 use Rattle.items.proofs.Inside.{text-fed, shape-fed}
+
+-- an item up to a place, and how deep the deepest shape is then
+abbrev pub whole_of : ℕ → ℕ → Item
+whole_of next deepest = record { next = next; deepest = deepest }
 
 -- a shape of one byte is walked over
 short-walk : (left : ℕ) (s : List ℕ) (end at levels : ℕ) → at < end → first_said (class_of (get_or s at 0)) ≡ By.Short levels → levels ≤ left → walk_shape depths left s end at ≡ came (at + 1) levels
@@ -34,7 +39,7 @@ unfolding walk_shape shape_with by_first
 short-walk zero s end at levels h f k = rw (lt-leb end at h, f, le-ltb 0 levels k)
 short-walk (suc left) s end at levels h f k = rw (lt-leb end at h, f, le-ltb (suc left) levels k)
 
-pub shape-whole : (s : List ℕ) (end at n deepest next d : ℕ) → walk_shape depths (max_levels - n) s end at ≡ came next d → n ≤ max_levels → end ≤ length s → ShapeFed s end at n deepest (Whole next (max deepest (n + d)))
+pub shape-whole : (s : List ℕ) (end at n deepest next d : ℕ) → walk_shape depths (max_levels - n) s end at ≡ came next d → n ≤ max_levels → end ≤ length s → ShapeFed s end at n deepest (Ok (whole_of next (max deepest (n + d))))
 shape-whole s end at n deepest next d w k b =
     let p = shape-spans (max_levels - n) s end at next d w in (
       p.on,
@@ -44,7 +49,7 @@ shape-whole s end at n deepest next d w k b =
           ∙ ap (λ q. fed (settle (l ∷ ls) (after_child top (get_or s at 0)) (count + (next - at)) whole (max deepest (q + d))) (drop next s)) e,
     )
 
-pub short-whole : (s : List ℕ) (end at n deepest levels : ℕ) → first_said (class_of (get_or s at 0)) ≡ By.Short levels → at < end → n + levels ≤ max_levels → end ≤ length s → ShapeFed s end at n deepest (Whole (at + 1) (max deepest (n + levels)))
+pub short-whole : (s : List ℕ) (end at n deepest levels : ℕ) → first_said (class_of (get_or s at 0)) ≡ By.Short levels → at < end → n + levels ≤ max_levels → end ≤ length s → ShapeFed s end at n deepest (Ok (whole_of (at + 1) (max deepest (n + levels))))
 short-whole s end at n deepest levels f h k b = shape-whole s end at n deepest (at + 1) levels (short-walk (max_levels - n) s end at levels h f (omega arith)) (omega arith) b
 
 -- a list that has no short form is the same after an item
@@ -55,35 +60,35 @@ after_same at stop due b items e = go (primitive b) refl
     go true p = rw p
     go false p = rw p (ap (λ x. level at stop due x) e)
 
-pub bare-whole : (s : List ℕ) (end at n deepest : ℕ) (r : Item) → ShapeFed s end at n deepest r → ItemFed Bare s end at n deepest r
-bare-whole s end at n deepest (Cut fault) h = h
-bare-whole s end at n deepest (Whole next deep) h = (
+pub bare-whole : (s : List ℕ) (end at n deepest : ℕ) (r : Result Item Cut) → ShapeFed s end at n deepest r → ItemFed Bare s end at n deepest r
+bare-whole s end at n deepest (Err cut) h = h
+bare-whole s end at n deepest (Ok item) h = (
   h.0,
   h.1,
   λ l ls from stop due count whole e j k.
       h.2 l ls (level from stop due Bare) count whole e j k
-      ∙ ap (λ x. fed (settle (l ∷ ls) x (count + (next - at)) whole deep) (drop next s)) (after_same from stop due (get_or s at 0) Bare refl),
+      ∙ ap (λ x. fed (settle (l ∷ ls) x (count + (item.next - at)) whole item.deepest) (drop item.next s)) (after_same from stop due (get_or s at 0) Bare refl),
 )
 
-pub text-whole : (s : List ℕ) (end at n deepest start next : ℕ) → text_at s end at ≡ Text.Whole start next → end ≤ length s → ItemFed Texts s end at n deepest (Whole next deepest)
+pub text-whole : (s : List ℕ) (end at n deepest : ℕ) (t : Text) → text_at s end at ≡ Ok t → end ≤ length s → ItemFed Texts s end at n deepest (Ok (whole_of t.next deepest))
 unfolding entered
-text-whole s end at n deepest start next t b =
-    let p = text-spans s end at start next t b in
-    (p.0, p.1, λ l ls from stop due count whole e j k. text-fed s (l ∷ ls) (level from stop due Texts) whole deepest end at start next count t b j k)
+text-whole s end at n deepest t e b =
+    let p = text-spans s end at t.start t.next e b in
+    (p.0, p.1, λ l ls from stop due count whole o j k. text-fed s (l ∷ ls) (level from stop due Texts) whole deepest end at t.start t.next count e b j k)
 
-pub field-whole : (s : List ℕ) (end at n deepest start mid : ℕ) (r : Item) → text_at s end at ≡ Text.Whole start mid → end ≤ length s → ShapeFed s end mid n deepest r → ItemFed Fields s end at n deepest r
+pub field-whole : (s : List ℕ) (end at n deepest : ℕ) (t : Text) (r : Result Item Cut) → text_at s end at ≡ Ok t → end ≤ length s → ShapeFed s end t.next n deepest r → ItemFed Fields s end at n deepest r
 unfolding entered shape_due
-field-whole s end at n deepest start mid (Cut fault) t b h = h
-field-whole s end at n deepest start mid (Whole next deep) t b h =
-    let p = text-spans s end at start mid t b in (
+field-whole s end at n deepest t (Err cut) g b h = h
+field-whole s end at n deepest t (Ok item) g b h =
+    let p = text-spans s end at t.start t.next g b in (
       omega (arith, p.0, h.0),
       h.1,
       λ l ls from stop due count whole e j k.
-          text-fed s (l ∷ ls) (level from stop due Fields) whole deepest end at start mid count t b j k
-          ∙ rw (lt-leb stop (count + (mid - at)) (omega (arith, p.0, h.0, h.1)))
-          (h.2 l ls (level from stop due Fields) (count + (mid - at)) whole e (omega (arith, p.0, p.1)) (omega (arith, p.0, p.1))
-          ∙ rw (after_same from stop due (get_or s mid 0) Fields refl)
-          (ap (λ x. fed (settle (l ∷ ls) (level from stop due Fields) x whole deep) (drop next s)) (omega (arith, p.0, h.0)))),
+          text-fed s (l ∷ ls) (level from stop due Fields) whole deepest end at t.start t.next count g b j k
+          ∙ rw (lt-leb stop (count + (t.next - at)) (omega (arith, p.0, h.0, h.1)))
+          (h.2 l ls (level from stop due Fields) (count + (t.next - at)) whole e (omega (arith, p.0, p.1)) (omega (arith, p.0, p.1))
+          ∙ rw (after_same from stop due (get_or s t.next 0) Fields refl)
+          (ap (λ x. fed (settle (l ∷ ls) (level from stop due Fields) x whole item.deepest) (drop item.next s)) (omega (arith, p.0, h.0)))),
     )
 
 -- an item is due before its payload's end
@@ -112,7 +117,7 @@ run_none items s end at n due deepest fault = record {
 
 -- one more
 pub run_more : (items : Items) (s : List ℕ) (end at n due deepest i d deep fault next deeper : ℕ) → RunFed items s end at n due deepest (taken i d deep fault) → 0 < d
-    → ItemFed items s end i n deep (Whole next deeper) → next < end → RunFed items s end at n due deepest (taken next (d - 1) deeper fault)
+    → ItemFed items s end i n deep (Ok (whole_of next deeper)) → next < end → RunFed items s end at n due deepest (taken next (d - 1) deeper fault)
 unfolding settle
 run_more items s end at n due deepest i d deep fault next deeper r p h q = record {
   from = omega (arith, r.from, h.0);

@@ -1,118 +1,104 @@
 // What lies whole in a part: its items are taken at once, by the whole reader's own walk. Only what a part's end cuts is read byte by byte.
 #![tactic(auto)]
 
-ghost use Rattle.std.specs.Prelude.{◌≡◌, ◌<◌, ◌≤◌, length};
-ghost use Rattle.items.specs.Fed.{ItemFed, RunFed, ShapeFed, WindowEnd, bare, named};
+ghost use Rattle.std.specs.Prelude.{◌<◌, ◌≤◌, length};
+ghost use Rattle.items.specs.Fed.{ItemFed, RunFed, ShapeFed, WindowEnd};
 ghost use Rattle.meaning.specs.Limits.{max_bytes, max_levels};
 ghost use Rattle.byte_steps.specs.declared.modes.Items.TheVariants.{Bare, Fields, Texts};
 
-use byte_steps::modes::{BYTES, Items, LEVELS, Level, larger};
-use payloads::Text;
+use byte_steps::modes::{BYTES, Items, LEVELS, Level};
+use leaves::refusals::Refusal;
 use payloads::first::First;
-use reader::Walked;
 
-// Whether the items are shapes, in a list without a short form.
-pub fn bare(items: Items) -> bool
-    ensures { result ≡ bare items }
-{
-    match items {
-        Items::Plain => false,
-        Items::Bare => true,
-        Items::Fields => false,
-        Items::Texts => false,
-    }
-}
-
-// Whether the items have texts.
-pub fn named(items: Items) -> bool
-    ensures { result ≡ named items }
-{
-    match items {
-        Items::Plain => false,
-        Items::Bare => false,
-        Items::Fields => true,
-        Items::Texts => true,
-    }
-}
-
-// An item that lies whole in a window: the place after it, and how deep the deepest shape is then. Cut: it does not, or something is wrong in it; the
-// walk has met that at a place.
+// An item that lies whole in a window: the place after it, and how deep the deepest shape is then.
 #[derive(Clone, Copy)]
-pub enum Item {
-    Whole { next: usize, deepest: u16 },
-    Cut { fault: usize },
+pub struct Item {
+    pub next: usize,
+    pub deepest: u16,
+}
+
+// An item that does not, or something is wrong in it: the walk has met that at a place.
+#[derive(Clone, Copy)]
+pub struct Cut {
+    pub fault: usize,
+}
+
+impl From<Refusal> for Cut {
+    fn from(refusal: Refusal) -> Cut {
+        Cut {
+            fault: refusal.place,
+        }
+    }
 }
 
 // A shape with a payload.
-fn long_item(s: &[u8], end: usize, at: usize, n: u16, deepest: u16) -> Item
-    requires { (end ≤ length s.now) × (0 < n) × (n ≤ max_levels) }
-    ensures { ShapeFed s.now end at n deepest result }
+fn long_item(w: &[u8], at: usize, n: u16, deepest: u16) -> Result<Item, Cut>
+    requires { (0 < n) × (n ≤ max_levels) }
+    ensures { ShapeFed w.now (length w.now) at n deepest result }
 {
-    match reader::shape_at(s, end, at, (LEVELS - n) as usize) {
-        Walked::Refused { number: _, place } => Item::Cut { fault: place },
-        Walked::Shape { next, depth } => Item::Whole {
-            next,
-            deepest: larger(deepest, n + depth as u16),
-        },
-    }
+    let shape = reader::shape_at(w, at, (LEVELS - n) as usize)?;
+    Ok(Item {
+        next: shape.next,
+        deepest: deepest.max(n + shape.depth as u16),
+    })
 }
 
 // A shape of a list at a level: most have one byte, and are taken without a call.
-pub fn shape_item(s: &[u8], end: usize, at: usize, n: u16, deepest: u16) -> Item
-    requires { (end ≤ length s.now) × (0 < n) × (n ≤ max_levels) }
-    ensures { ShapeFed s.now end at n deepest result }
+pub fn shape_item(w: &[u8], at: usize, n: u16, deepest: u16) -> Result<Item, Cut>
+    requires { (0 < n) × (n ≤ max_levels) }
+    ensures { ShapeFed w.now (length w.now) at n deepest result }
 {
-    if end <= at {
-        return Item::Cut { fault: at };
+    let cut = Err(Cut { fault: at });
+    if w.len() <= at {
+        return cut;
     }
-    match payloads::first::first_of(s[at]) {
-        First::Unassigned => Item::Cut { fault: at },
+    match First::from(w[at]) {
+        First::Unassigned => cut,
         First::Short { levels } => {
             let deep = n + levels as u16;
             if LEVELS < deep {
-                return Item::Cut { fault: at };
+                return cut;
             }
-            Item::Whole {
+            Ok(Item {
                 next: at + 1,
-                deepest: larger(deepest, deep),
-            }
+                deepest: deepest.max(deep),
+            })
         }
-        First::Long { kind: _ } => long_item(s, end, at, n, deepest),
+        First::Long { .. } => long_item(w, at, n, deepest),
     }
 }
 
 // A field: its name and its shape.
-fn field_item(s: &[u8], end: usize, at: usize, n: u16, deepest: u16) -> Item
-    requires { (end ≤ length s.now) × (0 < n) × (n ≤ max_levels) }
-    ensures { ItemFed Fields s.now end at n deepest result }
+fn field_item(w: &[u8], at: usize, n: u16, deepest: u16) -> Result<Item, Cut>
+    requires { (0 < n) × (n ≤ max_levels) }
+    ensures { ItemFed Fields w.now (length w.now) at n deepest result }
 {
-    match payloads::text_at(s, end, at) {
-        Text::Bad { number: _, place } => Item::Cut { fault: place },
-        Text::Whole { start: _, next } => shape_item(s, end, next, n, deepest),
-    }
+    let name = payloads::text_at(w, at)?;
+    shape_item(w, name.next, n, deepest)
 }
 
 // A Symbol's text.
-fn text_item(s: &[u8], end: usize, at: usize, n: u16, deepest: u16) -> Item
-    requires { (end ≤ length s.now) × (0 < n) }
-    ensures { ItemFed Texts s.now end at n deepest result }
+fn text_item(w: &[u8], at: usize, n: u16, deepest: u16) -> Result<Item, Cut>
+    requires { 0 < n }
+    ensures { ItemFed Texts w.now (length w.now) at n deepest result }
 {
-    match payloads::text_at(s, end, at) {
-        Text::Bad { number: _, place } => Item::Cut { fault: place },
-        Text::Whole { start: _, next } => Item::Whole { next, deepest },
-    }
+    let text = payloads::text_at(w, at)?;
+    Ok(Item {
+        next: text.next,
+        deepest,
+    })
 }
 
 // An item of a list that has no short form.
-fn item_at(s: &[u8], end: usize, at: usize, items: Items, n: u16, deepest: u16) -> Item
-    requires { (end ≤ length s.now) × (0 < n) × (n ≤ max_levels) }
-    ensures { ItemFed items s.now end at n deepest result }
+fn item_at(w: &[u8], at: usize, items: Items, n: u16, deepest: u16) -> Result<Item, Cut>
+    requires { (0 < n) × (n ≤ max_levels) }
+    ensures { ItemFed items w.now (length w.now) at n deepest result }
 {
     match items {
-        Items::Plain => Item::Cut { fault: at },
-        Items::Bare => shape_item(s, end, at, n, deepest),
-        Items::Fields => field_item(s, end, at, n, deepest),
-        Items::Texts => text_item(s, end, at, n, deepest),
+        Items::Plain => Err(Cut { fault: at }),
+        Items::Bare => shape_item(w, at, n, deepest),
+        Items::Fields => field_item(w, at, n, deepest),
+        Items::Texts => text_item(w, at, n, deepest),
     }
 }
 
@@ -128,118 +114,61 @@ pub struct Run {
 
 // The shapes of one byte at the front of a list of shapes, each with another byte after it in the window. None has more than two levels, so where two
 // are left none is too deep, and the loop does not ask how deep each is. Nearer to the last level none is taken here.
-fn shorts_run(
-    s: &[u8],
-    end: usize,
-    from: usize,
-    n: u16,
-    due: u16,
-    deepest: u16,
-    fault: usize,
-) -> Run
-    requires { (end ≤ length s.now) × (0 < n) × (n ≤ max_levels) }
-    ensures { RunFed Bare s.now end from n due deepest result }
+fn shorts_run(w: &[u8], n: u16, mut run: Run) -> Run
+    requires { (0 < n) × (n ≤ max_levels) }
+    ensures { RunFed Bare w.now (length w.now) run.i n run.due run.deepest result }
 {
-    let mut run = Run {
-        i: from,
-        due,
-        deepest,
-        fault,
-    };
-    if end <= from {
+    if w.len() <= run.i || LEVELS < n + 2 {
         return run;
     }
-    if LEVELS < n + 2 {
-        return run;
+    let stop = run.i + (run.due as usize).min(w.len() - run.i - 1);
+    for i in run.i..stop {
+        let First::Short { levels } = First::from(w[i]) else {
+            return run;
+        };
+        run.due -= 1;
+        run.i += 1;
+        run.deepest = run.deepest.max(n + levels as u16);
     }
-    let stop = from + least(due as usize, end - from - 1);
-    while run.i < stop {
-        let i = run.i;
-        match payloads::first::first_of(s[i]) {
-            First::Unassigned => return run,
-            First::Short { levels } => {
-                run.due -= 1;
-                run.i += 1;
-                run.deepest = larger(run.deepest, n + levels as u16);
+    run
+}
+
+// The items of a list from a place on that lie whole in a window, each with another after it there. Shapes of one byte at the front of a list of shapes
+// are taken first.
+pub fn items_run(w: &[u8], items: Items, n: u16, from: Run) -> Run
+    requires { (0 < n) × (n ≤ max_levels) }
+    ensures { RunFed items w.now (length w.now) from.i n from.due from.deepest result }
+{
+    let mut run = front_run(w, items, n, from);
+    for due in (0..run.due).rev() {
+        match item_at(w, run.i, items, n, run.deepest) {
+            Err(cut) => {
+                run.fault = run.fault.max(cut.fault);
+                return run;
             }
-            First::Long { kind: _ } => return run,
+            Ok(item) => {
+                if w.len() <= item.next {
+                    return run;
+                }
+                run.due = due;
+                run.i = item.next;
+                run.deepest = item.deepest;
+            }
         }
     }
     run
 }
 
 // Where the items of a list are taken from: after the shapes of one byte at its front, where its items are shapes alone; else from the place itself.
-fn front_run(
-    s: &[u8],
-    end: usize,
-    from: usize,
-    items: Items,
-    n: u16,
-    due: u16,
-    deepest: u16,
-    fault: usize,
-) -> Run
-    requires { (end ≤ length s.now) × (0 < n) × (n ≤ max_levels) }
-    ensures { RunFed items s.now end from n due deepest result }
+fn front_run(w: &[u8], items: Items, n: u16, from: Run) -> Run
+    requires { (0 < n) × (n ≤ max_levels) }
+    ensures { RunFed items w.now (length w.now) from.i n from.due from.deepest result }
 {
-    match items {
-        Items::Bare => shorts_run(s, end, from, n, due, deepest, fault),
-        _ => Run {
-            i: from,
-            due,
-            deepest,
-            fault,
-        },
+    if items.is_bare() {
+        shorts_run(w, n, from)
+    } else {
+        from
     }
-}
-
-// The items of a list from a place on that lie whole in a window, each with another after it there.
-pub fn items_run(
-    s: &[u8],
-    end: usize,
-    from: usize,
-    items: Items,
-    n: u16,
-    due: u16,
-    deepest: u16,
-    fault: usize,
-) -> Run
-    requires { (end ≤ length s.now) × (0 < n) × (n ≤ max_levels) }
-    ensures { RunFed items s.now end from n due deepest result }
-{
-    let mut run = front_run(s, end, from, items, n, due, deepest, fault);
-    while 0 < run.due {
-        match item_at(s, end, run.i, items, n, run.deepest) {
-            Item::Cut { fault: place } => {
-                run.fault = farthest(run.fault, place);
-                return run;
-            }
-            Item::Whole {
-                next,
-                deepest: deeper,
-            } => {
-                if end <= next {
-                    return run;
-                }
-                run.due -= 1;
-                run.i = next;
-                run.deepest = deeper;
-            }
-        }
-    }
-    run
-}
-
-// The smaller of two numbers.
-pub fn least(a: usize, b: usize) -> usize
-    ensures { (result ≤ a) × (result ≤ b) }
-{
-    if a < b { a } else { b }
-}
-
-// The larger. Of two faults it is the one that still lies ahead, if one does.
-pub fn farthest(a: usize, b: usize) -> usize {
-    if a < b { b } else { a }
 }
 
 // Where a window of a part's bytes from a place on ends: with the payload in hand, with the part, with the longest input, or with a fault ahead that a
@@ -251,10 +180,7 @@ pub fn window_end(s: &[u8], i: usize, top: Level, count: u16, fault: usize) -> u
     if top.stop <= count {
         return i;
     }
-    let room = least((top.stop - count) as usize, (BYTES - count) as usize);
-    let all = least(s.len() - i, room);
-    if i < fault {
-        return i + least(all, fault - i);
-    }
-    i + all
+    let room = (top.stop - count).min(BYTES - count) as usize;
+    let end = i + room.min(s.len() - i);
+    if i < fault { end.min(fault) } else { end }
 }

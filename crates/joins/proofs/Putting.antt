@@ -7,24 +7,24 @@
 -- Assumes nothing.
 use Prim.Native.Nat.{ℕ, ◌+◌, ◌*◌, ◌-◌, ◌≤◌, ◌<◌}
 use mathlib.Core.Path.{◌≡◌, refl, sym, ◌∙◌, ap}
-use mathlib.Core.Bool.{Bool, true, false}
 use mathlib.Core.List.{List, [], ◌∷◌, ◌++◌, append-nil, append_assoc}
 use native.Mathlib.Omega.{arith}
 use lib.ListN.{length, length-append}
-use lib.Seq.{drop-length}
 use Rattle.meaning.specs.Limits.{max_bytes, max_entries}
 use Rattle.meaning.specs.Numbers.{two_bytes}
 use Rattle.meaning.specs.Shape.{Shape}
 use Rattle.meaning.specs.Encode.{encode}
-use Rattle.meaning.specs.Numbered.{Numbered, All, over, each}
+use Rattle.meaning.specs.Numbered.{Numbered, All, each}
 use Rattle.meaning.specs.Sheet.{Sheet, join, lengths, entries_bytes, encodings, sheet_bytes, EntryWithin}
 use Rattle.meaning.specs.SheetReading.{count_size, entry_size}
 use Rattle.buffers.specs.Written.{written}
 use Rattle.buffers.proofs.Written.{written-length, written_none, written_after, written-before, written_apart}
 use Rattle.sheets.specs.Steps.{entry_place}
 use Rattle.sheets.proofs.Places.{all-at}
+use Rattle.merges.specs.declared.Entry.{Entry}
+use Rattle.merges.specs.declared.Entry.TheVariants.{First, Second}
 use Rattle.merges.specs.declared.Turn.{Turn}
-use Rattle.merges.specs.Merge.{joined_from, next_entry, Whose, TurnIs, Fitting}
+use Rattle.merges.specs.Merge.{joined_from, next_entry, IsThere, TurnIs, Fitting}
 
 -- Each of two runs goes on, the first up to the second.
 two_runs : (d x y v e : List ℕ) (at to : ℕ) → at + length x + length v ≤ to → to + length y + length e ≤ length d
@@ -94,8 +94,6 @@ pub record Put (σ τ : Sheet) (count : ℕ) (d out : List ℕ) (i j at to : ℕ
   pub fits : Room σ τ count d
   pub done : Sheet
   pub goes : join σ τ ≡ done ++ joined_from σ τ i j
-  pub first : i ≤ length σ
-  pub second : j ≤ length τ
   pub at-is : at ≡ entry_place (length done)
   pub to_is : to ≡ bodies count + length (encodings done)
   pub same : length out ≡ length d
@@ -108,77 +106,67 @@ put-none σ τ count d f = record {
   fits = f;
   done = [];
   goes = refl;
-  first = omega arith;
-  second = omega arith;
   at-is = refl;
   to_is = omega arith;
   same = refl;
   wrote = sym (written_none (written d count_size []) (bodies count) ∙ written_none d count_size);
 }
 
--- Nothing is left after all of both sheets.
-none_left : (σ τ : Sheet) (i j : ℕ) → i ≡ length σ → j ≡ length τ → joined_from σ τ i j ≡ []
-unfolding over each
-none_left σ τ i j h k = rw (h, k, drop-length σ, drop-length τ)
-
 -- After the last entry all are written.
-pub put_all : {σ τ : Sheet} {count : ℕ} {d out : List ℕ} {i j at to : ℕ} → Put σ τ count d out i j at to → length σ + length τ ≤ i + j
+pub put_all : {σ τ : Sheet} {count : ℕ} {d out : List ℕ} {i j at to : ℕ} → Put σ τ count d out i j at to → joined_from σ τ i j ≡ []
     → out ≡ written (written d count_size (heads (join σ τ))) (bodies count) (encodings (join σ τ))
-put_all {σ} {τ} {i = i} {j = j} p h =
-    let a = p.first in let b = p.second in
-    let r : joined_from σ τ i j ≡ [] = none_left σ τ i j (omega arith) (omega arith) in
+put_all {σ} {τ} p r =
     let w : join σ τ ≡ p.done = p.goes ∙ ap (λ (ρ : Sheet). p.done ++ ρ) r ∙ append-nil p.done in
     rw w p.wrote
 
 -- The number of an entry is small.
-number_small : (σ τ : Sheet) (i j : ℕ) (filled : Bool) → All EntryWithin σ → All EntryWithin τ → Whose σ τ i j filled
-    → (next_entry σ τ i j filled).number < 65536
-number_small σ τ i j true a b w = (all-at EntryWithin σ i a w).small
-number_small σ τ i j false a b w = (all-at EntryWithin τ j b w).small
+number_small : (σ τ : Sheet) (e : Entry) → All EntryWithin σ → All EntryWithin τ → IsThere σ τ e → (next_entry σ τ e).number < 65536
+number_small σ τ (First i) a b w = (all-at EntryWithin σ i a w).small
+number_small σ τ (Second j) a b w = (all-at EntryWithin τ j b w).small
 
 -- So is that of the entry that a turn passes.
-pub next_small : {σ τ : Sheet} {i j : ℕ} {t : Turn} → TurnIs σ τ i j t → All EntryWithin σ → All EntryWithin τ → t.blank < 65536
-next_small {σ} {τ} {i} {j} {t} u a b = rw u.blank (number_small σ τ i j t.filled a b u.whose)
+pub next_small : {σ τ : Sheet} {i j k l : ℕ} {t : Turn} → TurnIs σ τ i j t k l → All EntryWithin σ → All EntryWithin τ → t.blank < 65536
+next_small {σ} {τ} {t = t} u a b = rw u.blank (number_small σ τ t.entry a b u.there)
 
--- the entry that a turn passes, its encoding, and what is left after it
-abbrev passed : Sheet → Sheet → ℕ → ℕ → Turn → Numbered Shape
-passed σ τ i j t = next_entry σ τ i j t.filled
+module _ {σ τ : Sheet} {count : ℕ} {d out : List ℕ} {i j k l at to : ℕ} {t : Turn} (p : Put σ τ count d out i j at to) (u : TurnIs σ τ i j t k l) where
+  -- the entry that a turn passes, its encoding, and what is left after it
+  abbrev passed : Numbered Shape
+  passed = next_entry σ τ t.entry
 
-abbrev encoded : Sheet → Sheet → ℕ → ℕ → Turn → List ℕ
-encoded σ τ i j t = encode (passed σ τ i j t).item
+  abbrev encoded : List ℕ
+  encoded = encode passed.item
 
-abbrev left : Sheet → Sheet → Turn → Sheet
-left σ τ t = joined_from σ τ t.i t.j
+  abbrev left : Sheet
+  left = joined_from σ τ k l
 
-module _ {σ τ : Sheet} {count : ℕ} {d out : List ℕ} {i j at to : ℕ} {t : Turn} (p : Put σ τ count d out i j at to) (u : TurnIs σ τ i j t) where
   -- The entry stands after those written, before those left.
-  split : join σ τ ≡ p.done ++ (passed σ τ i j t ∷ left σ τ t)
+  split : join σ τ ≡ p.done ++ (passed ∷ left)
   split = p.goes ∙ ap (λ (ρ : Sheet). p.done ++ ρ) u.goes
 
   -- Its encoding is short.
-  pub next-short : length (encoded σ τ i j t) ≤ max_bytes
-  next-short = (all_middle _ p.done (passed σ τ i j t) (left σ τ t) (rw split at p.fits.fitting)).1
+  pub next-short : length encoded ≤ max_bytes
+  next-short = (all_middle _ p.done passed left (rw split at p.fits.fitting)).1
 
   -- There is room for its encoding.
-  pub next-room : to + length (encoded σ τ i j t) ≤ length out
+  pub next-room : to + length encoded ≤ length out
   next-room =
-      let m : bodies count + length (encodings (p.done ++ (passed σ τ i j t ∷ left σ τ t))) ≤ length d = rw split at p.fits.room in
+      let m : bodies count + length (encodings (p.done ++ (passed ∷ left))) ≤ length d = rw split at p.fits.room in
       let a = p.to_is in let b = p.same in
-      omega (arith, encodings-room p.done (passed σ τ i j t) (left σ τ t))
+      omega (arith, encodings-room p.done passed left)
 
   -- There is room for its two numbers.
   pub next_place : at + entry_size ≤ entry_place count
   next_place =
-      let m : count ≡ length (p.done ++ (passed σ τ i j t ∷ left σ τ t)) = rw split at p.fits.counted in
+      let m : count ≡ length (p.done ++ (passed ∷ left)) = rw split at p.fits.counted in
       let a = p.at-is in
-      omega (arith, length-append p.done (passed σ τ i j t ∷ left σ τ t))
+      omega (arith, length-append p.done (passed ∷ left))
 
   -- It is written: its encoding, its number and its length.
-  pub put-more : (end : ℕ) (a b c : List ℕ) → end ≡ to + length (encoded σ τ i j t) → a ≡ written out to (encoded σ τ i j t)
+  pub put-more : (end : ℕ) (a b c : List ℕ) → end ≡ to + length encoded → a ≡ written out to encoded
       → b ≡ written a at (two_bytes t.blank) → c ≡ written b (at + count_size) (two_bytes (end - to)) → length c ≡ length out
-      → Put σ τ count d c t.i t.j (at + entry_size) end
+      → Put σ τ count d c k l (at + entry_size) end
   put-more end a b c ends ha hb hc same =
-      let e : Numbered Shape = passed σ τ i j t in
+      let e : Numbered Shape = passed in
       let w : List ℕ = encode e.item in
       let x : List ℕ = heads p.done in
       let y : List ℕ = encodings p.done in
@@ -194,9 +182,7 @@ module _ {σ τ : Sheet} {count : ℕ} {d out : List ℕ} {i j at to : ℕ} {t :
       record {
         fits = p.fits;
         done = p.done ++ (e ∷ []);
-        goes = split ∙ sym (append_assoc p.done (e ∷ []) (left σ τ t));
-        first = u.first;
-        second = u.second;
+        goes = split ∙ sym (append_assoc p.done (e ∷ []) left);
         at-is = omega (arith, length-append p.done (e ∷ []));
         to_is = rw (encodings-append p.done (e ∷ []), encoding-one e, length-append y w) (omega arith);
         same = same ∙ ps;

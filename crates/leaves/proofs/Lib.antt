@@ -1,3 +1,5 @@
+pub mod Faults
+pub mod Fronts
 pub mod Numbers
 pub mod Text
 pub mod Way

@@ -11,32 +11,36 @@ use lib.ListN.{length, get_or}
 use lib.Seq.{slice}
 use lib.Dec.{ltb, leb, eqb}
 use Rattle.meaning.specs.Rules.{◌⇒◌∣◌}
-use Rattle.meaning.specs.Refusals.{unfinished, over_two_bytes, not_shortest}
 use Rattle.meaning.specs.Reading.{Reading, got, bad, read_count, second_byte}
 use Rattle.meaning.proofs.Rules.{facts, both}
 use Rattle.meaning.proofs.Window.{window-none, window-some, window-place, place-some}
-use Rattle.leaves.specs.Leb.{leb_said, leb_at}
+use Rattle.leaves.proofs.Faults.{fault-number}
+use Rattle.leaves.specs.Leb.{leb_of, leb_said, leb_at}
+use Rattle.std.specs.Prelude.{Result, Ok, Err}
+use Rattle.leaves.specs.Faults.{number_of, fault_at}
+use Rattle.leaves.specs.declared.refusals.Fault.{Fault}
+use Rattle.leaves.specs.declared.refusals.Fault.TheVariants.{NumberWrong}
+use Rattle.leaves.specs.declared.refusals.Refusal.{Refusal}
 use Rattle.leaves.specs.declared.Leb.{Leb}
-use Rattle.leaves.specs.declared.Leb.TheVariants.{Number, Fault}
 
 -- the number at a place whose first byte is b and has another after it, by index
-abbrev second_step : List ℕ → ℕ → ℕ → ℕ → Leb
+abbrev second_step : List ℕ → ℕ → ℕ → ℕ → Result Leb Refusal
 second_step s e at b =
-    leb e (at + 1) ⇒ Fault unfinished ∣ λ _.
-    leb 128 (get_or s (at + 1) 0) ⇒ Fault over_two_bytes ∣ λ _.
-    eqb (get_or s (at + 1) 0) 0 ⇒ Fault not_shortest ∣ λ _.
-    Number (b % 128 + 128 * get_or s (at + 1) 0) (at + 2)
+    leb e (at + 1) ⇒ Err (fault_at NumberWrong at) ∣ λ _.
+    leb 128 (get_or s (at + 1) 0) ⇒ Err (fault_at NumberWrong at) ∣ λ _.
+    eqb (get_or s (at + 1) 0) 0 ⇒ Err (fault_at NumberWrong at) ∣ λ _.
+    Ok (leb_of (b % 128 + 128 * get_or s (at + 1) 0) (at + 2))
 
 -- the number at a place by index
-unfoldable pub steps : List ℕ → ℕ → ℕ → Leb
+unfoldable pub steps : List ℕ → ℕ → ℕ → Result Leb Refusal
 steps s e at =
-    leb e at ⇒ Fault unfinished ∣ λ _.
-    ltb (get_or s at 0) 128 ⇒ Number (get_or s at 0) (at + 1) ∣ λ _.
+    leb e at ⇒ Err (fault_at NumberWrong at) ∣ λ _.
+    ltb (get_or s at 0) 128 ⇒ Ok (leb_of (get_or s at 0) (at + 1)) ∣ λ _.
     second_step s e at (get_or s at 0)
 
 -- What is said and what is read, step by step: a relation that holds at every fault and at every number holds of them.
-module _ (s : List ℕ) (e at : ℕ) (k : e ≤ length s) (R : Leb → Reading ℕ → Type 0)
-    (faulty : (n : ℕ) → R (Fault n) (bad n at)) (sound : (v n : ℕ) → at < n → n ≤ e → R (Number v n) (got v (slice n e s))) where
+module _ (s : List ℕ) (e at : ℕ) (k : e ≤ length s) (R : Result Leb Refusal → Reading ℕ → Type 0)
+    (faulty : (f : Fault) → R (Err (fault_at f at)) (bad (number_of f) at)) (sound : (v n : ℕ) → at < n → n ≤ e → R (Ok (leb_of v n)) (got v (slice n e s))) where
   -- It holds from the second byte on.
   second : (b : ℕ) → R (second_step s e at b) (second_byte at b (slice (at + 1) e s))
   unfolding second_byte
@@ -46,12 +50,12 @@ module _ (s : List ℕ) (e at : ℕ) (k : e ≤ length s) (R : Leb → Reading �
       c = get_or s (at + 1) 0
 
       go : (t : Bool) → leb e (at + 1) ≡ t → R (second_step s e at b) (second_byte at b (slice (at + 1) e s))
-      go true p = rw (p, window-none s (at + 1) e (omega (arith, facts))) (faulty unfinished)
+      go true p = rw (p, window-none s (at + 1) e (omega (arith, facts))) (faulty NumberWrong)
       go false p =
           let z : at + 1 + 1 ≡ at + 2 = omega arith in
           rw (p, window-some s (at + 1) e (omega (arith, facts)) k, z)
-          (both R (leb 128 c) _ _ _ _ (λ q. faulty over_two_bytes) λ q.
-          both R (eqb c 0) _ _ _ _ (λ q. faulty not_shortest) λ q.
+          (both R (leb 128 c) _ _ _ _ (λ q. faulty NumberWrong) λ q.
+          both R (eqb c 0) _ _ _ _ (λ q. faulty NumberWrong) λ q.
           sound _ (at + 2) (omega arith) (omega (arith, facts)))
 
   -- It holds from the first byte on.
@@ -62,7 +66,7 @@ module _ (s : List ℕ) (e at : ℕ) (k : e ≤ length s) (R : Leb → Reading �
       go : (t : Bool) → leb e at ≡ t → R (steps s e at) (read_count e (slice at e s))
       go true p =
           let z : at ≡ e = omega (arith, facts) in
-          rw (p, window-none s at e (omega (arith, facts)), ← z) (faulty unfinished)
+          rw (p, window-none s at e (omega (arith, facts)), ← z) (faulty NumberWrong)
       go false p =
           let l : at < e = omega (arith, facts) in
           rw (p, window-some s at e l k, place-some s at e l k)
@@ -76,12 +80,14 @@ leb-steps s e at k = go (leb e at) refl
     go : (t : Bool) → leb e at ≡ t → leb_at s e at ≡ steps s e at
     go true p = rw (p, window-none s at e (omega (arith, facts)))
     go false p =
-        sym (stepwise s e at k (λ l r. l ≡ leb_said e r) (λ n. refl) (λ v n h i. rw (window-place s n e i k)) (omega (arith, facts)))
+        sym (stepwise s e at k (λ l r. l ≡ leb_said e at r) (λ f. rw (fault-number f)) (λ v n h i. rw (window-place s n e i k)) (omega (arith, facts)))
+
+pub ruleset leb_by_steps = (leb-steps)
 
 -- What `leb128` answers, and what the meaning reads from there on.
-pub data ToldLeb (s : List ℕ) (e at : ℕ) : Leb → Reading ℕ → Type 0 where
-  number : (v n : ℕ) → at ≤ n → n ≤ e → ToldLeb s e at (Number v n) (got v (slice n e s))
-  fault : (k : ℕ) → ToldLeb s e at (Fault k) (bad k at)
+pub data ToldLeb (s : List ℕ) (e at : ℕ) : Result Leb Refusal → Reading ℕ → Type 0 where
+  number : (v n : ℕ) → at ≤ n → n ≤ e → ToldLeb s e at (Ok (leb_of v n)) (got v (slice n e s))
+  fault : (f : Fault) → ToldLeb s e at (Err (fault_at f at)) (bad (number_of f) at)
 
 -- The answer tells the reading.
 pub leb-told : (s : List ℕ) (e at : ℕ) → at ≤ e → e ≤ length s → ToldLeb s e at (leb_at s e at) (read_count e (slice at e s))

@@ -65,6 +65,8 @@ well-on w h =
 pub char-first : (s : List ℕ) (e at : ℕ) → at < e → e ≤ length s → char_size (slice at e s) ≡ char_size (get_or s at 0 ∷ slice (at + 1) e s)
 char-first s e at h k = rw (window-some s at e h k)
 
+pub ruleset char_by_first = (char-first)
+
 -- the size of the character at a place whose first byte asks for 1 to 3 more, by index
 unfoldable pub size_steps : List ℕ → ℕ → ℕ → ℕ → ℕ → ℕ → ℕ
 size_steps s e at more low high =
@@ -119,6 +121,8 @@ size-steps s e at more low high k h i j = go (leb (e - at) more) refl
         let z : length (slice (at + 1) e s) < more = rw (window-length s (at + 1) e k) (omega (arith, facts)) in
         rw (p, goes-short more low high (slice (at + 1) e s) z)
     go false p = long more i j (omega (arith, facts))
+
+pub ruleset size_by_steps = (size-steps)
 
 -- A text is UTF-8 where it is well formed to its window's end.
 pub utf8-to : (s : List ℕ) (a e : ℕ) → a ≤ e → e ≤ length s → eqb (a + well_formed (slice a e s)) e ≡ utf8 (slice a e s)

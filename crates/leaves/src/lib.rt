@@ -1,4 +1,5 @@
-// The leaves of the codec: numbers of two bytes, LEB128 numbers and UTF-8 text. A window is a slice's bytes from a place up to end.
+// The leaves of the codec: numbers of two bytes, LEB128 numbers and UTF-8 text. A window begins where the input does, so that its places are the
+// input's, and ends where what is read in it ends.
 #![tactic(auto)]
 
 pub mod limits;
@@ -11,7 +12,7 @@ ghost use Rattle.meaning.specs.Utf8.{size_with, char_size, well_formed};
 ghost use Rattle.leaves.specs.Leb.{leb_at, LebInside};
 ghost use Rattle.leaves.specs.Onward.{Onward};
 
-use refusals::{NOT_SHORTEST, OVER_TWO_BYTES, UNFINISHED};
+use refusals::{Fault, Refusal};
 
 // A count has two bytes, as has every number of a sheet or a table but kinds.
 pub const COUNT_SIZE: usize = 2;
@@ -22,154 +23,102 @@ pub fn two_at(s: &[u8], at: usize) -> usize
     ensures is { result ≡ of_two (get_or s.now at 0) (get_or s.now (at + 1) 0) }
     ensures small { result < 65536 }
 {
-    let low = s[at] as usize;
-    let high = s[at + 1] as usize;
-    low + 256 * high
+    usize::from(u16::from_le_bytes([s[at], s[at + 1]]))
 }
 
-// A LEB128 number with the place after it, or the number of the refusal.
+// A LEB128 number, and the place after it.
 #[derive(Clone, Copy)]
-pub enum Leb {
-    Number { value: usize, next: usize },
-    Fault { number: usize },
+pub struct Leb {
+    pub value: usize,
+    pub next: usize,
 }
 
 // The LEB128 number at a place of a window.
-pub fn leb128(s: &[u8], end: usize, at: usize) -> Leb
-    requires { end ≤ length s.now }
-    ensures is { result ≡ leb_at s.now end at }
-    ensures inside { LebInside end at result }
+#[tactic(auto, using(meaning::proofs::Rules::tests, crate::proofs::Numbers::leb_by_steps), unfolding(crate::proofs::Numbers::steps))]
+pub fn leb128(w: &[u8], at: usize) -> Result<Leb, Refusal>
+    ensures is { result ≡ leb_at w.now (length w.now) at }
+    ensures inside { LebInside (length w.now) at result }
 {
-    if end <= at {
-        return Leb::Fault { number: UNFINISHED };
-    }
-    let low = s[at] as usize;
-    if low < 128 {
-        return Leb::Number {
-            value: low,
+    if at < w.len() && w[at] < 128 {
+        Ok(Leb {
+            value: usize::from(w[at]),
             next: at + 1,
-        };
-    }
-    if end <= at + 1 {
-        return Leb::Fault { number: UNFINISHED };
-    }
-    let high = s[at + 1] as usize;
-    if 128 <= high {
-        return Leb::Fault {
-            number: OVER_TWO_BYTES,
-        };
-    }
-    if high == 0 {
-        return Leb::Fault {
-            number: NOT_SHORTEST,
-        };
-    }
-    Leb::Number {
-        value: low % 128 + 128 * high,
-        next: at + 2,
+        })
+    } else if at < w.len() && at + 1 < w.len() && matches!(w[at + 1], 1..128) {
+        Ok(Leb {
+            value: usize::from(w[at] % 128) + 128 * usize::from(w[at + 1]),
+            next: at + 2,
+        })
+    } else {
+        Err(Refusal {
+            fault: Fault::NumberWrong,
+            place: at,
+        })
     }
 }
 
 // The size of the character at a place whose first byte asks for 1 to 3 more, the first of them from low to high; 0 where they do not follow.
-fn char_with(s: &[u8], end: usize, at: usize, more: usize, low: u8, high: u8) -> usize
-    requires { (at < end) × (end ≤ length s.now) × (0 < more) × (more < 4) }
-    ensures is { result ≡ size_with more low high (slice (at + 1) end s.now) }
-    ensures inside { result ≤ end - at }
+#[tactic(auto, using(meaning::proofs::Rules::tests, crate::proofs::Text::size_by_steps), unfolding(crate::proofs::Text::size_steps))]
+fn char_with(w: &[u8], at: usize, more: usize, low: u8, high: u8) -> usize
+    requires { (at < length w.now) × (0 < more) × (more < 4) }
+    ensures is { result ≡ size_with more low high (slice (at + 1) (length w.now) w.now) }
+    ensures inside { result ≤ length w.now - at }
 {
-    if end - at <= more {
-        return 0;
+    if more < w.len() - at
+        && (low..=high).contains(&w[at + 1])
+        && (more < 2 || matches!(w[at + 2], 128..=191))
+        && (more < 3 || matches!(w[at + 3], 128..=191))
+    {
+        more + 1
+    } else {
+        0
     }
-    let second = s[at + 1];
-    if second < low {
-        return 0;
-    }
-    if high < second {
-        return 0;
-    }
-    if more == 1 {
-        return 2;
-    }
-    let third = s[at + 2];
-    if third < 128 {
-        return 0;
-    }
-    if 191 < third {
-        return 0;
-    }
-    if more == 2 {
-        return 3;
-    }
-    let fourth = s[at + 3];
-    if fourth < 128 {
-        return 0;
-    }
-    if 191 < fourth {
-        return 0;
-    }
-    4
 }
 
 // The size of the character at a place, or 0. Each class of first byte has a call of its own, which the compiler then specialises.
-fn char_at(s: &[u8], end: usize, at: usize) -> usize
-    requires { (at < end) × (end ≤ length s.now) }
-    ensures is { result ≡ char_size (slice at end s.now) }
-    ensures inside { result ≤ end - at }
+// Two tests are guards so that they come before the others: with ranges alone, characters of two bytes took a third longer.
+#[tactic(auto, using(meaning::proofs::Rules::tests, crate::proofs::Text::char_by_first), unfolding(meaning::specs::Utf8::char_size))]
+fn char_at(w: &[u8], at: usize) -> usize
+    requires { at < length w.now }
+    ensures is { result ≡ char_size (slice at (length w.now) w.now) }
+    ensures inside { result ≤ length w.now - at }
 {
-    let b = s[at];
-    if b < 128 {
-        return 1;
+    match w[at] {
+        0..=127 => 1,
+        b if b < 194 => 0,
+        b if b < 224 => char_with(w, at, 1, 128, 191),
+        224 => char_with(w, at, 2, 160, 191),
+        237 => char_with(w, at, 2, 128, 159),
+        225..=239 => char_with(w, at, 2, 128, 191),
+        240 => char_with(w, at, 3, 144, 191),
+        241..=243 => char_with(w, at, 3, 128, 191),
+        244 => char_with(w, at, 3, 128, 143),
+        _ => 0,
     }
-    if b < 194 {
-        return 0;
-    }
-    if b < 224 {
-        return char_with(s, end, at, 1, 128, 191);
-    }
-    if b == 224 {
-        return char_with(s, end, at, 2, 160, 191);
-    }
-    if b == 237 {
-        return char_with(s, end, at, 2, 128, 159);
-    }
-    if b < 240 {
-        return char_with(s, end, at, 2, 128, 191);
-    }
-    if b == 240 {
-        return char_with(s, end, at, 3, 144, 191);
-    }
-    if b < 244 {
-        return char_with(s, end, at, 3, 128, 191);
-    }
-    if b == 244 {
-        return char_with(s, end, at, 3, 128, 143);
-    }
-    0
 }
 
 // Whether a block of bytes stands at a place of a window, each of them a character: one test for all, of which the compiler makes vector code.
-pub fn block_at(s: &[u8], end: usize, at: usize, size: usize) -> bool
-    requires { (at ≤ end) × (end ≤ length s.now) }
-    ensures { result ≡ true → Onward s.now end at (at + size) }
+pub fn block_at(w: &[u8], at: usize, size: usize) -> bool
+    requires { at ≤ length w.now }
+    ensures { result ≡ true → Onward w.now (length w.now) at (at + size) }
 {
-    if end - at < size {
+    if w.len() - at < size {
         return false;
     }
-    let mut bits: u8 = 0;
-    let mut i = 0;
-    while i < size {
-        bits = bits | s[at + i];
-        i += 1;
+    let mut bits = 0;
+    for b in &w[at..at + size] {
+        bits |= *b;
     }
     bits < 128
 }
 
 // The place after the blocks of bytes that are each a character.
-fn past_blocks(s: &[u8], end: usize, from: usize, size: usize) -> usize
-    requires { (from ≤ end) × (end ≤ length s.now) × (0 < size) }
-    ensures { Onward s.now end from result }
+fn past_blocks(w: &[u8], from: usize, size: usize) -> usize
+    requires { (from ≤ length w.now) × (0 < size) }
+    ensures { Onward w.now (length w.now) from result }
 {
     let mut at = from;
-    while block_at(s, end, at, size) {
+    while block_at(w, at, size) {
         at += size;
     }
     at
@@ -182,32 +131,31 @@ const WIDE: usize = 64;
 const NARROW: usize = 8;
 
 // The place after the bytes that are each a character: most texts have no others.
-fn past_ascii(s: &[u8], end: usize, from: usize) -> usize
-    requires { (from ≤ end) × (end ≤ length s.now) }
-    ensures { Onward s.now end from result }
+fn past_ascii(w: &[u8], from: usize) -> usize
+    requires { from ≤ length w.now }
+    ensures { Onward w.now (length w.now) from result }
 {
-    let wide = past_blocks(s, end, from, WIDE);
-    let mut at = past_blocks(s, end, wide, NARROW);
-    while at < end {
-        if 128 <= s[at] {
+    let wide = past_blocks(w, from, WIDE);
+    let narrow = past_blocks(w, wide, NARROW);
+    for at in narrow..w.len() {
+        if 128 <= w[at] {
             return at;
         }
-        at += 1;
     }
-    at
+    w.len()
 }
 
 // The place up to which the text from a place on is well formed.
-pub fn well_formed_to(s: &[u8], end: usize, from: usize) -> usize
-    requires { (from ≤ end) × (end ≤ length s.now) }
-    ensures { result ≡ from + well_formed (slice from end s.now) }
+pub fn well_formed_to(w: &[u8], from: usize) -> usize
+    requires { from ≤ length w.now }
+    ensures { result ≡ from + well_formed (slice from (length w.now) w.now) }
 {
     let mut at = from;
-    while at < end {
-        if s[at] < 128 {
-            at = past_ascii(s, end, at + 1);
+    while at < w.len() {
+        if w[at] < 128 {
+            at = past_ascii(w, at + 1);
         } else {
-            let n = char_at(s, end, at);
+            let n = char_at(w, at);
             if n == 0 {
                 return at;
             }

@@ -3,7 +3,7 @@
 --     fill-small, join-small     so for any input
 --     onto-small, room_small, made-small     what is to be shown of each step
 -- Assumes nothing.
-use Prim.Native.Nat.{ℕ, suc, ◌+◌, ◌*◌, ◌≤◌}
+use Prim.Native.Nat.{ℕ, suc, ◌+◌, ◌*◌, ◌≤◌, ◌<◌}
 use mathlib.Core.Path.{◌≡◌, refl}
 use mathlib.Core.List.{List, [], ◌∷◌}
 use native.Mathlib.Omega.{arith}
@@ -35,7 +35,7 @@ farthest = longest_table
 -- an answer that carries small numbers
 abbrev pub Small : Answer → Type 0
 Small (answered w) = length w ≤ farthest
-Small (refused number place) = (number ≤ no_such_part) × (place ≤ farthest)
+Small (refused number place) = (0 < number) × (number ≤ no_such_part) × (place ≤ farthest)
 
 -- What was read is handed on; a refusal of reading has to be small.
 pub onto-small : {A : Type 0} (r : Reading A) (f : A → Answer) → ((a : A) (w : List ℕ) → r ≡ got a w → Small (f a)) → ((n p : ℕ) → r ≡ bad n p → Small (refused n p)) → Small (onto r f)
@@ -46,14 +46,14 @@ onto-small (bad n p) f h k = k n p refl
 -- An answer in its room is small, where it is short.
 pub room_small : (room : ℕ) (w : List ℕ) → length w ≤ farthest → Small (in_room room w)
 unfolding in_room
-room_small room w h = rule Small (ltb room (length w)) _ _ (λ _. (omega arith, omega arith)) (λ _. h)
+room_small room w h = rule Small (ltb room (length w)) _ _ (λ _. (omega arith, omega arith, omega arith)) (λ _. h)
 
 -- A made shape is refused at a small place, or is short.
 pub made-small : (p : ℕ) (s : Shape) (a : Answer) → p ≤ farthest → (length (encode s) ≤ max_bytes → Small a) → Small (made p s a)
 unfolding made
 made-small p s a h k =
-    rule Small (ltb max_levels (depth s)) _ _ (λ _. (omega arith, h)) λ _.
-    rule Small (ltb max_bytes (length (encode s))) _ _ (λ _. (omega arith, h)) λ q.
+    rule Small (ltb max_levels (depth s)) _ _ (λ _. (omega arith, omega arith, h)) λ _.
+    rule Small (ltb max_bytes (length (encode s))) _ _ (λ _. (omega arith, omega arith, h)) λ q.
     k (ltb-false _ _ q)
 
 -- Whatever bytes come, and whatever the room: what a fill answers is small.
@@ -63,8 +63,8 @@ fill-small template sheet room =
     onto-small (reading template) _
     (λ t w p. onto-small (read_sheet sheet_broken sheet) _
     (λ σ v q. made-small 0 (fill σ t) _ (omega arith) (λ h. room_small room _ (omega arith)))
-    (λ n p q. let f = sheet-refusal sheet_broken sheet n p q in (omega (arith, f.0), omega (arith, f.1))))
-    (λ n p q. let f = refusal-small template n p q in (omega arith, omega arith))
+    (λ n p q. let f = sheet-refusal sheet_broken sheet n p q in (omega (arith, f.0), omega (arith, f.0), omega (arith, f.1))))
+    (λ n p q. let f = refusal-small template n p q in (omega (arith, f.some), omega arith, omega arith))
 
 -- With an item put in, a list has one item more at most.
 put-length : {A : Type 0} (d : Numbered A) (es : List (Numbered A)) → length (put d es) ≤ suc (length es)
@@ -97,14 +97,14 @@ join-small first second room b c =
     onto-small (read_sheet sheet_broken first) _
     (λ σ w p. onto-small (read_sheet second_broken second) _
     (λ τ v q. joined σ τ (sheet-read sheet_broken first σ w b p).1 (sheet-read second_broken second τ v c q).1)
-    (λ n p q. let f = sheet-refusal second_broken second n p q in (omega (arith, f.0), omega (arith, f.1))))
-    (λ n p q. let f = sheet-refusal sheet_broken first n p q in (omega (arith, f.0), omega (arith, f.1)))
+    (λ n p q. let f = sheet-refusal second_broken second n p q in (omega (arith, f.0), omega (arith, f.0), omega (arith, f.1))))
+    (λ n p q. let f = sheet-refusal sheet_broken first n p q in (omega (arith, f.0), omega (arith, f.0), omega (arith, f.1)))
   where
     joined : (σ τ : Sheet) → SheetWithin σ → SheetWithin τ → Small (made_sheet room (join σ τ))
     joined σ τ h k =
         let n = over-length (each (fill τ) σ) τ in
-        rule Small (ltb max_entries (length (join σ τ))) _ _ (λ _. (omega arith, omega (arith, each-length (fill τ) σ, h.few, k.few))) λ p.
+        rule Small (ltb max_entries (length (join σ τ))) _ _ (λ _. (omega arith, omega arith, omega (arith, each-length (fill τ) σ, h.few, k.few))) λ p.
         all_small (join σ τ) _ (join-proper σ τ (proper-entries σ h) (proper-entries τ k)) λ l.
         let m = ltb-false max_entries (length (join σ τ)) p in
-        rule Small (ltb max_encodings (length (encodings (join σ τ)))) _ _ (λ _. (omega arith, omega arith)) λ q.
+        rule Small (ltb max_encodings (length (encodings (join σ τ)))) _ _ (λ _. (omega arith, omega arith, omega arith)) λ q.
         room_small room _ (omega (arith, sheet-length (join σ τ), ltb-false max_encodings (length (encodings (join σ τ))) q))

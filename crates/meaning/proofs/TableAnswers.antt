@@ -99,7 +99,7 @@ unfolding write_answer
 write-small table room =
     onto-small (read_table table) _
     (λ T w p. made-small 0 (table_shape T) _ (omega arith) (λ h. room_small room _ (omega arith)))
-    (λ n p q. let f = table-refusal table n p q in (omega (arith, f.high), omega (arith, f.inside)))
+    (λ n p q. let f = table-refusal table n p q in (omega (arith, f.low), omega (arith, f.high), omega (arith, f.inside)))
 
 -- a way back that is answered: the input is the bytes of a shape within the limits, and the answer is the bytes of its table
 pub record Tabled (bytes w : List ℕ) : Type 0 where
@@ -153,7 +153,7 @@ unfolding table_answer
 table-small bytes room b =
     onto-small (reading bytes) _
     (λ s w p. room_small room _ (omega (arith, made-length s (encode-reading bytes s w b p).1)))
-    (λ n p q. let f = refusal-small bytes n p q in (omega (arith, f.known), omega (arith, f.inside)))
+    (λ n p q. let f = refusal-small bytes n p q in (omega (arith, f.some), omega (arith, f.known), omega (arith, f.inside)))
 
 -- What the way back makes of bytes means what they are: the writer makes those bytes of it.
 pub table-write : {bytes w : List ℕ} → Tabled bytes w → Wrote w bytes

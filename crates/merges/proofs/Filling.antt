@@ -1,17 +1,15 @@
 -- An entry of a sheet, filled: where its encoding stands, the pass that measures those bytes speaks of its shape.
 --     lent             the bytes of a part, as a call is lent them
+--     part_bytes       they are the encoding of its shape
 --     part-reading     they are read as its shape
---     part_length      a part is as long as the encoding of its shape
---     part-short       so it is short enough for a template
 --     span_filled      what is measured there is the span of the shape, filled
 -- Assumes nothing.
-use Prim.Native.Nat.{ℕ, ◌+◌, ◌-◌, ◌≤◌}
-use mathlib.Core.Path.{◌≡◌, sym, ◌∙◌, ap}
+use Prim.Native.Nat.{ℕ, ◌+◌, ◌-◌}
+use mathlib.Core.Path.{◌≡◌, ◌∙◌, ap}
 use mathlib.Core.List.{List, []}
 use native.Mathlib.Omega.{arith}
 use lib.ListN.{length, take, drop}
-use lib.Seq.{take-length, length-slice}
-use Rattle.meaning.specs.Limits.{max_bytes}
+use lib.Seq.{take-length}
 use Rattle.meaning.specs.Shape.{Shape, depth}
 use Rattle.meaning.specs.Encode.{encode}
 use Rattle.meaning.specs.Reading.{got, reading}
@@ -34,7 +32,7 @@ span l d = record { length = l; depth = d }
 
 module _ {s : List ℕ} {t : Shape} {p : Part} (h : PartIs s t p) where
   -- The bytes of a part are the encoding of its shape.
-  part_bytes : lent s p ≡ encode t
+  pub part_bytes : lent s p ≡ encode t
   part_bytes =
       let b = h.inside in
       let a = h.some in
@@ -44,14 +42,6 @@ module _ {s : List ℕ} {t : Shape} {p : Part} (h : PartIs s t p) where
   -- They are read as that shape.
   pub part-reading : reading (lent s p) ≡ got t []
   part-reading = rw part_bytes (reading-encode t h.within)
-
-  -- A part is as long as the encoding of its shape.
-  pub part_length : p.end - p.start ≡ length (encode t)
-  part_length = sym (length-slice p.start p.end s h.inside) ∙ ap length h.is
-
-  -- Its bytes are few enough for a template.
-  pub part-short : length (lent s p) ≤ max_bytes
-  part-short = rw part_bytes h.within.short
 
   -- What is measured there is the span of the shape, filled.
   pub span_filled : (σ : ℕ → Shape) (z : Size) → MeasureIs σ (reading (lent s p)) z

@@ -1,2 +1,2 @@
-pub mod Merging
 pub mod Filling
+pub mod Merging

@@ -2,94 +2,113 @@
 // count them, to measure them, and (crate `joins`) to write them.
 #![tactic(auto)]
 
-ghost use Rattle.std.specs.Prelude.{◌≡◌, ◌≤◌, ◌<◌, ◌+◌, length};
+ghost use Rattle.std.specs.Prelude.{◌≡◌, length};
+ghost use Rattle.std.specs.Iterator.{at_most};
 ghost use Rattle.meaning.specs.Sheet.{join};
-ghost use Rattle.sheets.specs.Index.{sheet_in, Ready};
-ghost use Rattle.merges.specs.Merge.{Whose, next_entry, TurnIs, span_of, measured_all};
+ghost use Rattle.sheets.specs.Index.{sheet_in};
+ghost use Rattle.merges.specs.Merge.{IsThere, next_entry, JoinedGives, turns_left, span_of, measured_all};
 
-use leaves::COUNT_SIZE;
 use leaves::limits::{MAX_BYTES, MAX_LEVELS};
-use sheets::ENTRY_SIZE;
+use leaves::refusals::{Fault, Refusal};
+use sheets::Sheet;
+use std::cmp::Ordering;
 
-// The entry that comes next: whether it is the first's, which the second fills, its blank, and how many of each sheet are passed after it.
+// An entry of the joined sheet: one of the first, which the second fills, or one of the second, as it is there.
+#[derive(Clone, Copy)]
+pub enum Entry {
+    First(usize),
+    Second(usize),
+}
+
+// The entry that comes next, and its blank.
 #[derive(Clone, Copy)]
 pub struct Turn {
-    pub filled: bool,
+    pub entry: Entry,
     pub blank: usize,
+}
+
+// The joined entries of two sheets that are still to come, in rising order: i of the first and j of the second are passed.
+#[derive(Drop)]
+pub struct Joined<'a> {
+    pub first: &'a Sheet<'a>,
+    pub second: &'a Sheet<'a>,
     pub i: usize,
     pub j: usize,
 }
 
-// The entry that comes next, after i of the first and j of the second. Where both have the blank, the first's counts.
-pub fn turn_of(
-    first: &[u8],
-    index: &[u16],
-    second: &[u8],
-    other: &[u16],
-    i: usize,
-    j: usize,
-) -> Turn
-    requires { Ready first.now index.now × Ready second.now other.now × (i ≤ length (sheet_in first.now)) × (j ≤ length (sheet_in second.now)) × (i + j < length (sheet_in first.now) + length (sheet_in second.now)) }
-    ensures { TurnIs (sheet_in first.now) (sheet_in second.now) i j result }
-{
-    if leaves::two_at(first, 0) <= i {
-        return Turn {
-            filled: false,
-            blank: leaves::two_at(second, COUNT_SIZE + ENTRY_SIZE * j),
-            i,
-            j: j + 1,
-        };
+impl<'a> Joined<'a> {
+    // All of them.
+    pub fn new(first: &'a Sheet<'a>, second: &'a Sheet<'a>) -> Joined<'a>
+        ensures first { result.first.now ≡ first.now }
+        ensures second { result.second.now ≡ second.now }
+        ensures i { result.i ≡ 0 }
+        ensures j { result.j ≡ 0 }
+    {
+        Joined {
+            first,
+            second,
+            i: 0,
+            j: 0,
+        }
     }
-    let a = leaves::two_at(first, COUNT_SIZE + ENTRY_SIZE * i);
-    if leaves::two_at(second, 0) <= j {
-        return Turn {
-            filled: true,
-            blank: a,
-            i: i + 1,
-            j,
+}
+
+impl<'a> Iterator for Joined<'a> {
+    type Item = Turn;
+
+    ghost next_gives = { JoinedGives };
+
+    ghost remaining = { λ s. at_most (turns_left s) };
+
+    // Where both have the blank, the first's counts.
+    #[tactic(auto, using(crate::proofs::Merging::first_next, crate::proofs::Merging::both_next, crate::proofs::Merging::second_next, crate::proofs::Merging::joined_end))]
+    fn next(&mut self) -> Option<Turn> {
+        if self.second.count() <= self.j {
+            if self.first.count() <= self.i {
+                return None;
+            }
+            let first = Turn {
+                entry: Entry::First(self.i),
+                blank: self.first.blank(self.i),
+            };
+            self.i += 1;
+            return Some(first);
+        }
+        let second = Turn {
+            entry: Entry::Second(self.j),
+            blank: self.second.blank(self.j),
         };
-    }
-    let b = leaves::two_at(second, COUNT_SIZE + ENTRY_SIZE * j);
-    if a < b {
-        return Turn {
-            filled: true,
-            blank: a,
-            i: i + 1,
-            j,
+        if self.first.count() <= self.i {
+            self.j += 1;
+            return Some(second);
+        }
+        let first = Turn {
+            entry: Entry::First(self.i),
+            blank: self.first.blank(self.i),
         };
-    }
-    if a == b {
-        return Turn {
-            filled: true,
-            blank: a,
-            i: i + 1,
-            j: j + 1,
-        };
-    }
-    Turn {
-        filled: false,
-        blank: b,
-        i,
-        j: j + 1,
+        match first.blank.cmp(&second.blank) {
+            Ordering::Less => {
+                self.i += 1;
+                Some(first)
+            }
+            Ordering::Equal => {
+                self.i += 1;
+                self.j += 1;
+                Some(first)
+            }
+            Ordering::Greater => {
+                self.j += 1;
+                Some(second)
+            }
+        }
     }
 }
 
 // How many entries the joined sheet has.
-pub fn joined_count(first: &[u8], index: &[u16], second: &[u8], other: &[u16]) -> usize
-    requires { Ready first.now index.now × Ready second.now other.now }
-    ensures { result ≡ length (join (sheet_in first.now) (sheet_in second.now)) }
+pub fn joined_count(first: &Sheet, second: &Sheet) -> usize
+    ensures { result ≡ length (join (sheet_in first.now.bytes.now) (sheet_in second.now.bytes.now)) }
 {
-    let all = leaves::two_at(first, 0) + leaves::two_at(second, 0);
-    let mut i = 0;
-    let mut j = 0;
-    let mut count = 0;
-    while i + j < all {
-        let turn = turn_of(first, index, second, other, i, j);
-        count += 1;
-        i = turn.i;
-        j = turn.j;
-    }
-    count
+    Joined::new(first, second).count()
 }
 
 // The length and the depth of a shape.
@@ -99,65 +118,50 @@ pub struct Span {
     pub depth: usize,
 }
 
-// The span of the entry that comes next: the first's entry i filled by the second, or the second's entry j as it is there.
-fn span_at(
-    first: &[u8],
-    index: &[u16],
-    second: &[u8],
-    other: &[u16],
-    i: usize,
-    j: usize,
-    filled: bool,
-) -> Span
-    requires { Ready first.now index.now × Ready second.now other.now × Whose (sheet_in first.now) (sheet_in second.now) i j filled }
-    ensures { result ≡ span_of (next_entry (sheet_in first.now) (sheet_in second.now) i j filled) }
+// The span of an entry of the joined sheet.
+fn span_at(first: &Sheet, second: &Sheet, entry: Entry) -> Span
+    requires { IsThere (sheet_in first.now.bytes.now) (sheet_in second.now.bytes.now) entry }
+    ensures { result ≡ span_of (next_entry (sheet_in first.now.bytes.now) (sheet_in second.now.bytes.now) entry) }
 {
-    if filled {
-        let entry = sheets::entry_at(first, index, i);
-        let start = entry.start;
-        let end = entry.end;
-        let size = sizes::measure(&first[start..end], second, other);
-        return Span {
-            length: size.length,
-            depth: size.depth,
-        };
-    }
-    let entry = sheets::entry_at(second, other, j);
-    Span {
-        length: entry.end - entry.start,
-        depth: entry.depth,
+    match entry {
+        Entry::First(i) => {
+            let part = first.entry(i);
+            let size = sizes::measure(&first.bytes[part.start..part.end], second);
+            Span {
+                length: size.length,
+                depth: size.depth,
+            }
+        }
+        Entry::Second(j) => {
+            let part = second.entry(j);
+            Span {
+                length: part.end - part.start,
+                depth: part.depth,
+            }
+        }
     }
 }
 
-// How the joined entries measure: together so many bytes of encodings, or the first blank whose shape is too deep or too long.
-#[derive(Clone, Copy)]
-pub enum Measured {
-    Fitting { bytes: usize },
-    Deep { blank: usize },
-    Long { blank: usize },
-}
-
-// Measures the joined entries, in rising order.
-pub fn measure_all(first: &[u8], index: &[u16], second: &[u8], other: &[u16]) -> Measured
-    requires { Ready first.now index.now × Ready second.now other.now }
-    ensures { result ≡ measured_all (join (sheet_in first.now) (sheet_in second.now)) 0 }
+// Measures the joined entries, in rising order: together so many bytes of encodings, or the first blank whose shape is too deep or too long.
+pub fn measure_all(first: &Sheet, second: &Sheet) -> Result<usize, Refusal>
+    ensures { result ≡ measured_all (join (sheet_in first.now.bytes.now) (sheet_in second.now.bytes.now)) 0 }
 {
-    let all = leaves::two_at(first, 0) + leaves::two_at(second, 0);
-    let mut i = 0;
-    let mut j = 0;
     let mut bytes = 0;
-    while i + j < all {
-        let turn = turn_of(first, index, second, other, i, j);
-        let span = span_at(first, index, second, other, i, j, turn.filled);
+    for turn in Joined::new(first, second) {
+        let span = span_at(first, second, turn.entry);
         if MAX_LEVELS < span.depth {
-            return Measured::Deep { blank: turn.blank };
+            return Err(Refusal {
+                fault: Fault::MadeTooDeep,
+                place: turn.blank,
+            });
         }
         if MAX_BYTES < span.length {
-            return Measured::Long { blank: turn.blank };
+            return Err(Refusal {
+                fault: Fault::MadeTooLong,
+                place: turn.blank,
+            });
         }
         bytes += span.length;
-        i = turn.i;
-        j = turn.j;
     }
-    Measured::Fitting { bytes }
+    Ok(bytes)
 }

@@ -22,8 +22,9 @@ use Rattle.meaning.proofs.Lists.{list_of, child-is, text_of, name-is}
 use Rattle.payloads.specs.declared.first.Kind as first
 use Rattle.payloads.specs.Payload as Payload
 use Rattle.parts.specs.declared.FoundChild.TheVariants as child
-use Rattle.parts.specs.declared.FoundName.TheVariants as name
-use Rattle.parts.specs.Said.{child_said, name_said, told_child}
+use Rattle.std.specs.Prelude.{Ok, Err}
+use Rattle.leaves.specs.Faults.{refusal}
+use Rattle.parts.specs.Said.{child_said, name_said, name_of, told_child}
 use Rattle.steps.specs.Steps.{past_name, past_items, listing, list_at}
 use Rattle.parts.specs.Found.{child_from, name_from, child_in, name_in}
 use Rattle.steps.proofs.Places.{Stands, stands-length, stands_after, past-shape, leb-at, Of, of_bare, of-named, of-lone, AllOf, past-name, past-items}
@@ -68,7 +69,7 @@ text-inside : (s : List ℕ) (at : ℕ) (t x : List ℕ) → Stands s at (text_b
 text-inside s at t x h = let l = simp length-append at (stands-length s at _ h) in omega (arith, leb-pos (length t))
 
 name-at : (s : List ℕ) (at : ℕ) (kind : first.Kind) (i : Item) (x : List ℕ) → Of kind i → Payload.named kind ≡ true → Stands s at (name_bytes i ++ x)
-    → name_from s at ≡ name.Text (at + length (leb128 (length (text_of i)))) (length (text_of i))
+    → name_from s at ≡ Ok (name_of (at + length (leb128 (length (text_of i)))) (length (text_of i)))
 unfolding name_bytes name_from text_of
 name-at s at kind i x (of_bare c n p) q h = cc
 name-at s at kind i x (of-named t c n p b) q h = rw (leb-at s at (length t) (t ++ x) b (text-inside s at t x h) (rw append_assoc at h))
@@ -91,22 +92,22 @@ module _ (t : Shape) (kind : first.Kind) (l : Listed t kind) (k : ℕ) where
           (child-at (encode t) _ kind (item_of t k) e.after e.of q (stands_after (encode t) (item_place t k) (name_bytes (item_of t k)) _ e.stands))
 
       go : (b : Bool) → Payload.shaped kind ≡ b
-          → (Payload.shaped kind ⇒ (ltb k (length (items t)) ⇒ child_from (encode t) (past_name (encode t) (past_items (encode t) kind k (list_start t)) kind) ∣ λ _. child.Refused no_such_part (length (items t))) ∣ λ _. child.Refused no_such_part 0)
-          ≡ (ltb k (Payload.shaped kind ⇒ length (items t) ∣ λ _. 0) ⇒ told_child (child_of t k) ∣ λ _. child.Refused no_such_part (Payload.shaped kind ⇒ length (items t) ∣ λ _. 0))
-      go true q = rw q (both (λ a b. a ≡ b) (ltb k (length (items t))) _ _ _ _ (λ p. found (ltb-true _ _ p) q) (λ p. refl))
+          → (ltb k (Payload.shaped kind ⇒ length (items t) ∣ λ _. 0) ⇒ Ok (child_from (encode t) (past_name (encode t) (past_items (encode t) kind k (list_start t)) kind)) ∣ λ _. Err (refusal no_such_part (Payload.shaped kind ⇒ length (items t) ∣ λ _. 0)))
+          ≡ (ltb k (Payload.shaped kind ⇒ length (items t) ∣ λ _. 0) ⇒ Ok (told_child (child_of t k)) ∣ λ _. Err (refusal no_such_part (Payload.shaped kind ⇒ length (items t) ∣ λ _. 0)))
+      go true q = rw q (both (λ a b. a ≡ b) (ltb k (length (items t))) _ _ _ _ (λ p. ap Ok (found (ltb-true _ _ p) q)) (λ p. refl))
       go false q = rw (q, le-ltb k 0 (omega arith))
 
   pub name-listed : name_in (encode t) kind k (list_at (encode t) 3 kind) ≡ name_said (got t []) k
   unfolding name_in
   name-listed = rw (at-root t kind l, l.names) (go (Payload.named kind) refl)
     where
-      found : k < length (items t) → Payload.named kind ≡ true → name_from (encode t) (past_items (encode t) kind k (list_start t)) ≡ name.Text (name_place t k) (length (name_text t k))
+      found : k < length (items t) → Payload.named kind ≡ true → name_from (encode t) (past_items (encode t) kind k (list_start t)) ≡ Ok (name_of (name_place t k) (length (name_text t k)))
       found h q =
           let e = here t kind l k h in
           rw (e.place, ← name-is t k) (name-at (encode t) (item_place t k) kind (item_of t k) _ e.of q e.stands)
 
       go : (b : Bool) → Payload.named kind ≡ b
-          → (Payload.named kind ⇒ (ltb k (length (items t)) ⇒ name_from (encode t) (past_items (encode t) kind k (list_start t)) ∣ λ _. name.Refused no_such_part (length (items t))) ∣ λ _. name.Refused no_such_part 0)
-          ≡ (ltb k (Payload.named kind ⇒ length (items t) ∣ λ _. 0) ⇒ name.Text (name_place t k) (length (name_text t k)) ∣ λ _. name.Refused no_such_part (Payload.named kind ⇒ length (items t) ∣ λ _. 0))
+          → (ltb k (Payload.named kind ⇒ length (items t) ∣ λ _. 0) ⇒ name_from (encode t) (past_items (encode t) kind k (list_start t)) ∣ λ _. Err (refusal no_such_part (Payload.named kind ⇒ length (items t) ∣ λ _. 0)))
+          ≡ (ltb k (Payload.named kind ⇒ length (items t) ∣ λ _. 0) ⇒ Ok (name_of (name_place t k) (length (name_text t k))) ∣ λ _. Err (refusal no_such_part (Payload.named kind ⇒ length (items t) ∣ λ _. 0)))
       go true q = rw q (both (λ a b. a ≡ b) (ltb k (length (items t))) _ _ _ _ (λ p. found (ltb-true _ _ p) q) (λ p. refl))
       go false q = rw (q, le-ltb k 0 (omega arith))

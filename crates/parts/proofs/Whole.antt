@@ -23,8 +23,9 @@ use Rattle.meaning.proofs.Complete.{class-prim, class-array, class-map, class-bl
 use Rattle.payloads.specs.First.{kind_said}
 use Rattle.payloads.specs.declared.first.Kind.TheVariants.{Array, Map, Record, Function, Symbol, Variable}
 use Rattle.steps.specs.declared.Listing.{Listing}
+use Rattle.std.specs.Prelude.{Ok, Err}
+use Rattle.leaves.specs.Faults.{refusal}
 use Rattle.parts.specs.declared.FoundChild.TheVariants as child
-use Rattle.parts.specs.declared.FoundName.TheVariants as name
 use Rattle.parts.specs.Said.{child_said, name_said}
 use Rattle.steps.specs.Steps.{head_size, first_at, list_at}
 use Rattle.parts.specs.Found.{child_in, name_in, packed_child, child_by, name_with, child_steps, name_steps}
@@ -32,18 +33,18 @@ use Rattle.parts.proofs.Listed.{child-listed, name-listed}
 use Rattle.parts.proofs.Lists.{array-listed, map-listed, record-listed, function-listed, symbol-listed}
 
 -- a shape without children, without names
-no-child : (t : Shape) (k : ℕ) → length (children t) ≡ 0 → child.Refused no_such_part 0 ≡ child_said (got t []) k
+no-child : (t : Shape) (k : ℕ) → length (children t) ≡ 0 → Err (refusal no_such_part 0) ≡ child_said (got t []) k
 no-child t k h = rw (h, le-ltb k 0 (omega arith))
 
-no_name : (t : Shape) (k : ℕ) → length (names t) ≡ 0 → name.Refused no_such_part 0 ≡ name_said (got t []) k
+no_name : (t : Shape) (k : ℕ) → length (names t) ≡ 0 → Err (refusal no_such_part 0) ≡ name_said (got t []) k
 no_name t k h = rw (h, le-ltb k 0 (omega arith))
 
 -- a byte that is a shape without children
-low-child : (b k : ℕ) (t : Shape) → class_of b ≡ Meant.whole t → b < 96 → child_steps (b ∷ []) k ≡ child.Refused no_such_part 0
+low-child : (b k : ℕ) (t : Shape) → class_of b ≡ Meant.whole t → b < 96 → child_steps (b ∷ []) k ≡ Err (refusal no_such_part 0)
 unfolding child_steps child_by first_at packed_child
 low-child b k t c h = rw (c, lt-ltb b 96 h)
 
-low-name : (b k : ℕ) (f : Bool) (t : Shape) → class_of b ≡ (f ⇒ Meant.whole t ∣ λ _. Meant.packed t) → name_steps (b ∷ []) k ≡ name.Refused no_such_part 0
+low-name : (b k : ℕ) (f : Bool) (t : Shape) → class_of b ≡ (f ⇒ Meant.whole t ∣ λ _. Meant.packed t) → name_steps (b ∷ []) k ≡ Err (refusal no_such_part 0)
 unfolding name_steps name_with first_at
 low-name b k true t c = rw c
 low-name b k false t c = rw c
@@ -57,21 +58,21 @@ long-name : (s : List ℕ) (kind : Meant.Kind) (q : List ℕ) (k : ℕ) → s �
 unfolding name_steps name_with first_at
 long-name s kind q k e = rw (e, lt-leb (length (sized kind q)) 0 (omega arith), class-kind kind)
 
-blank-child : (s : List ℕ) (k : ℕ) (l : Listing) → child_in s Variable k l ≡ child.Refused no_such_part 0
+blank-child : (s : List ℕ) (k : ℕ) (l : Listing) → child_in s Variable k l ≡ Err (refusal no_such_part 0)
 unfolding child_in
-blank-child s k l = refl
+blank-child s k l = rw (le-ltb k 0 (omega arith))
 
-blank-name : (s : List ℕ) (k : ℕ) (l : Listing) → name_in s Variable k l ≡ name.Refused no_such_part 0
+blank-name : (s : List ℕ) (k : ℕ) (l : Listing) → name_in s Variable k l ≡ Err (refusal no_such_part 0)
 unfolding name_in
-blank-name s k l = refl
+blank-name s k l = rw (le-ltb k 0 (omega arith))
 
 -- packed bytes
 packed-array : (s : Shape) (p : Primitive) (k : ℕ) → as_prim s ≡ some p → child_steps (array_byte (code p) ∷ []) k ≡ child_said (got (array_of s) []) k
 unfolding child_steps child_by first_at packed_child children child_of has_short items
 packed-array s p k e = rw (class-array p, le-ltb (array_byte (code p)) 96 (omega arith), lt-ltb (array_byte (code p)) 101 (omega (arith, code-small p))) (go k)
   where
-    go : (k : ℕ) → (eqb k 0 ⇒ child.Primitive (array_byte (code p) - 96) ∣ λ _. child.Refused no_such_part 1) ≡ child_said (got (array_of s) []) k
-    go zero = rw e (ap child.Primitive (omega arith))
+    go : (k : ℕ) → (eqb k 0 ⇒ Ok (child.Primitive (array_byte (code p) - 96)) ∣ λ _. Err (refusal no_such_part 1)) ≡ child_said (got (array_of s) []) k
+    go zero = rw e (ap (λ n. Ok (child.Primitive n)) (omega arith))
     go (suc k) = rw (ne_eqb (suc k) 0 (omega arith), le-ltb (suc k) 1 (omega arith))
 
 packed-map : (s t : Shape) (p q : Primitive) (k : ℕ) → as_prim s ≡ some p → as_prim t ≡ some q → child_steps (map_byte (code p) (code q) ∷ []) k ≡ child_said (got (map_of s t) []) k
@@ -81,9 +82,9 @@ packed-map s t p q k e f = rw (class-map p q, le-ltb b 96 (omega arith), le-ltb 
     b : ℕ
     b = map_byte (code p) (code q)
 
-    go : (k : ℕ) → (eqb k 0 ⇒ child.Primitive ((b - 101) / 5) ∣ λ _. eqb k 1 ⇒ child.Primitive ((b - 101) % 5) ∣ λ _. child.Refused no_such_part 2) ≡ child_said (got (map_of s t) []) k
-    go zero = rw (e, f) (ap child.Primitive (omega (arith, code-small q)))
-    go (suc zero) = rw (e, f) (ap child.Primitive (omega (arith, code-small q)))
+    go : (k : ℕ) → (eqb k 0 ⇒ Ok (child.Primitive ((b - 101) / 5)) ∣ λ _. eqb k 1 ⇒ Ok (child.Primitive ((b - 101) % 5)) ∣ λ _. Err (refusal no_such_part 2)) ≡ child_said (got (map_of s t) []) k
+    go zero = rw (e, f) (ap (λ n. Ok (child.Primitive n)) (omega (arith, code-small q)))
+    go (suc zero) = rw (e, f) (ap (λ n. Ok (child.Primitive n)) (omega (arith, code-small q)))
     go (suc (suc k)) = rw (ne_eqb (suc (suc k)) 0 (omega arith), ne_eqb (suc (suc k)) 1 (omega arith), le-ltb (suc (suc k)) 2 (omega arith))
 
 pub child-steps : (t : Shape) → length (encode t) ≤ 16384 → (k : ℕ) → child_steps (encode t) k ≡ child_said (got t []) k
@@ -91,7 +92,7 @@ unfolding encode blank_bytes array_bytes map_bytes children has_short
 child-steps (prim p) h k = low-child (prim_byte (code p)) k (prim p) (class-prim p) (omega (arith, code-small p)) ∙ no-child (prim p) k refl
 child-steps (blank n) h k = go (ltb n short_blanks) refl ∙ no-child (blank n) k refl
   where
-    go : (b : Bool) → ltb n short_blanks ≡ b → child_steps (blank_bytes n) k ≡ child.Refused no_such_part 0
+    go : (b : Bool) → ltb n short_blanks ≡ b → child_steps (blank_bytes n) k ≡ Err (refusal no_such_part 0)
     go true p = rw p (low-child n k (blank n) (class-blank n (ltb-true _ _ p)) (omega (arith, ltb-true n short_blanks p)))
     go false p =
         let s : List ℕ = sized Meant.variable (two_bytes n) in
@@ -116,7 +117,7 @@ unfolding encode blank_bytes array_bytes map_bytes names has_short
 name-steps (prim p) h k = low-name (prim_byte (code p)) k true (prim p) (class-prim p) ∙ no_name (prim p) k refl
 name-steps (blank n) h k = go (ltb n short_blanks) refl ∙ no_name (blank n) k refl
   where
-    go : (b : Bool) → ltb n short_blanks ≡ b → name_steps (blank_bytes n) k ≡ name.Refused no_such_part 0
+    go : (b : Bool) → ltb n short_blanks ≡ b → name_steps (blank_bytes n) k ≡ Err (refusal no_such_part 0)
     go true p = rw p (low-name n k true (blank n) (class-blank n (ltb-true _ _ p)))
     go false p =
         let s : List ℕ = sized Meant.variable (two_bytes n) in

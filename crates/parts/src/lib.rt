@@ -3,29 +3,38 @@
 #![tactic(auto)]
 
 ghost use Rattle.std.specs.Prelude.{◌≡◌};
+ghost use Rattle.meaning.specs.Refusals.{no_such_part};
 ghost use Rattle.meaning.specs.Reading.{reading};
+ghost use Rattle.leaves.specs.Faults.{refusal};
 ghost use Rattle.parts.specs.Said.{child_said, name_said};
 ghost use Rattle.parts.specs.Found.{child_from, name_from, child_in, name_in, packed_child, child_steps, name_steps};
 
-use leaves::Leb;
-use leaves::refusals::NO_SUCH_PART;
+use leaves::refusals::{Fault, Refusal};
 use payloads::first::{First, Kind, PACKED, PACKED_MAPS};
-use reader::Judgement;
 use steps::{HEAD_SIZE, Listing, first_at, list_at, past_items, past_name, past_shape};
 
-// Child k: place and length in the parent, or a primitive's number where the parent is packed, or a refusal.
+// Child k: place and length in the parent, or a primitive's number where the parent is packed.
 #[derive(Clone, Copy)]
 pub enum FoundChild {
     Part { place: usize, length: usize },
     Primitive { number: usize },
-    Refused { number: usize, place: usize },
 }
 
-// Name k: the text's place and length, or a refusal.
+// Name k: the text's place and length.
 #[derive(Clone, Copy)]
-pub enum FoundName {
-    Text { place: usize, length: usize },
-    Refused { number: usize, place: usize },
+pub struct FoundName {
+    pub place: usize,
+    pub length: usize,
+}
+
+// The refusal where there is no part k: how many there are.
+fn no_such_part(count: usize) -> Refusal
+    ensures { result ≡ refusal no_such_part count }
+{
+    Refusal {
+        fault: Fault::NoSuchPart,
+        place: count,
+    }
 }
 
 // The child that starts at a place.
@@ -40,153 +49,96 @@ fn child_from(s: &[u8], start: usize) -> FoundChild
 }
 
 // The name whose length stands at a place.
-fn name_from(s: &[u8], at: usize) -> FoundName
+#[tactic(auto, unfolding(crate::specs::Found::name_from))]
+fn name_from(s: &[u8], at: usize) -> Result<FoundName, Refusal>
     ensures { result ≡ name_from s.now at }
 {
-    match leaves::leb128(s, s.len(), at) {
-        Leb::Fault { number: _ } => FoundName::Refused {
-            number: NO_SUCH_PART,
-            place: 0,
-        },
-        Leb::Number { value, next } => FoundName::Text {
-            place: next,
-            length: value,
-        },
-    }
+    let size = leaves::leb128(s, at)?;
+    Ok(FoundName {
+        place: size.next,
+        length: size.value,
+    })
 }
 
 // Child k of a shape with a payload.
-fn child_in(s: &[u8], kind: Kind, k: u64, list: Listing) -> FoundChild
+#[tactic(auto, using(meaning::proofs::Rules::tests), unfolding(crate::specs::Found::child_in))]
+fn child_in(s: &[u8], kind: Kind, k: u64, list: Listing) -> Result<FoundChild, Refusal>
     ensures { result ≡ child_in s.now kind k list }
 {
-    let from = list.from;
-    let count = list.count;
-    if payloads::shaped_kind(kind) {
-        if k < count as u64 {
-            child_from(s, past_name(s, past_items(s, kind, k, from), kind))
-        } else {
-            FoundChild::Refused {
-                number: NO_SUCH_PART,
-                place: count,
-            }
-        }
+    let count = if kind.is_shaped() { list.count } else { 0 };
+    if k < count as u64 {
+        Ok(child_from(s, past_name(s, past_items(s, kind, k, list.from), kind)))
     } else {
-        FoundChild::Refused {
-            number: NO_SUCH_PART,
-            place: 0,
-        }
+        Err(no_such_part(count))
     }
 }
 
 // Name k of a shape with a payload.
-fn name_in(s: &[u8], kind: Kind, k: u64, list: Listing) -> FoundName
+#[tactic(auto, using(meaning::proofs::Rules::tests), unfolding(crate::specs::Found::name_in))]
+fn name_in(s: &[u8], kind: Kind, k: u64, list: Listing) -> Result<FoundName, Refusal>
     ensures { result ≡ name_in s.now kind k list }
 {
-    let from = list.from;
-    let count = list.count;
-    if payloads::named_kind(kind) {
-        if k < count as u64 {
-            name_from(s, past_items(s, kind, k, from))
-        } else {
-            FoundName::Refused {
-                number: NO_SUCH_PART,
-                place: count,
-            }
-        }
+    let count = if kind.is_named() { list.count } else { 0 };
+    if k < count as u64 {
+        name_from(s, past_items(s, kind, k, list.from))
     } else {
-        FoundName::Refused {
-            number: NO_SUCH_PART,
-            place: 0,
-        }
+        Err(no_such_part(count))
     }
 }
 
 // Child k of a shape of one byte.
-fn packed_child(b: u8, k: u64) -> FoundChild
+#[tactic(auto, using(meaning::proofs::Rules::tests), unfolding(crate::specs::Found::packed_child))]
+fn packed_child(b: u8, k: u64) -> Result<FoundChild, Refusal>
     ensures { result ≡ packed_child b k }
 {
-    if b < PACKED {
-        return FoundChild::Refused {
-            number: NO_SUCH_PART,
-            place: 0,
-        };
-    }
-    if b < PACKED_MAPS {
-        if k == 0 {
-            return FoundChild::Primitive {
-                number: (b - PACKED) as usize,
-            };
-        }
-        return FoundChild::Refused {
-            number: NO_SUCH_PART,
-            place: 1,
-        };
-    }
-    if k == 0 {
-        return FoundChild::Primitive {
-            number: ((b - PACKED_MAPS) / 5) as usize,
-        };
-    }
-    if k == 1 {
-        return FoundChild::Primitive {
-            number: ((b - PACKED_MAPS) % 5) as usize,
-        };
-    }
-    FoundChild::Refused {
-        number: NO_SUCH_PART,
-        place: 2,
-    }
+    let number = match (b, k) {
+        (0..PACKED, _) => return Err(no_such_part(0)),
+        (PACKED..PACKED_MAPS, 0) => b - PACKED,
+        (PACKED..PACKED_MAPS, _) => return Err(no_such_part(1)),
+        (_, 0) => (b - PACKED_MAPS) / 5,
+        (_, 1) => (b - PACKED_MAPS) % 5,
+        _ => return Err(no_such_part(2)),
+    };
+    Ok(FoundChild::Primitive {
+        number: usize::from(number),
+    })
 }
 
 // Child k of an accepted encoding.
-fn child_of(s: &[u8], k: u64) -> FoundChild
+#[tactic(auto, unfolding(crate::specs::Found::child_steps, crate::specs::Found::child_by))]
+fn child_of(s: &[u8], k: u64) -> Result<FoundChild, Refusal>
     ensures { result ≡ child_steps s.now k }
 {
     match first_at(s, 0) {
-        First::Unassigned => FoundChild::Refused {
-            number: NO_SUCH_PART,
-            place: 0,
-        },
+        First::Unassigned => Err(no_such_part(0)),
         First::Short { levels: _ } => packed_child(s[0], k),
         First::Long { kind } => child_in(s, kind, k, list_at(s, HEAD_SIZE, kind)),
     }
 }
 
 // Name k of an accepted encoding.
-fn name_of(s: &[u8], k: u64) -> FoundName
+#[tactic(auto, unfolding(crate::specs::Found::name_steps, crate::specs::Found::name_with))]
+fn name_of(s: &[u8], k: u64) -> Result<FoundName, Refusal>
     ensures { result ≡ name_steps s.now k }
 {
     match first_at(s, 0) {
-        First::Unassigned => FoundName::Refused {
-            number: NO_SUCH_PART,
-            place: 0,
-        },
-        First::Short { levels: _ } => FoundName::Refused {
-            number: NO_SUCH_PART,
-            place: 0,
-        },
+        First::Unassigned | First::Short { levels: _ } => Err(no_such_part(0)),
         First::Long { kind } => name_in(s, kind, k, list_at(s, HEAD_SIZE, kind)),
     }
 }
 
 // Child k of an encoding: the reader's refusals first, then 18 with how many children there are.
-pub fn child(bytes: &[u8], k: u64) -> FoundChild
+pub fn child(bytes: &[u8], k: u64) -> Result<FoundChild, Refusal>
     ensures { result ≡ child_said (reading bytes.now) k }
 {
-    let judged = reader::read(bytes);
-    let Judgement::Refused { number, place } = judged else {
-        return child_of(bytes, k);
-    };
-    FoundChild::Refused { number, place }
+    reader::read(bytes)?;
+    child_of(bytes, k)
 }
 
 // Name k of an encoding: the reader's refusals first, then 18 with how many names there are.
-pub fn name(bytes: &[u8], k: u64) -> FoundName
+pub fn name(bytes: &[u8], k: u64) -> Result<FoundName, Refusal>
     ensures { result ≡ name_said (reading bytes.now) k }
 {
-    let judged = reader::read(bytes);
-    let Judgement::Refused { number, place } = judged else {
-        return name_of(bytes, k);
-    };
-    FoundName::Refused { number, place }
+    reader::read(bytes)?;
+    name_of(bytes, k)
 }

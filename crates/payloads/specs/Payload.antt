@@ -1,6 +1,6 @@
 -- NOT TO BE BELIEVED: with the walk (reader/specs/Walk.antt) proved equal to reading. Only contracts between our own crates cite it.
 -- 01-scope.md, "Reading order", as the code goes: the parts of a payload, by places in the input s, in a window that ends at end.
-use Rattle.std.specs.Prelude.{ℕ, ◌+◌, ◌-◌, ◌≤◌, List, Bool, true, false, get_or, ltb, leb, eqb}
+use Rattle.std.specs.Prelude.{ℕ, ◌+◌, ◌-◌, ◌≤◌, List, Bool, true, false, get_or, ltb, leb, eqb, Result, Ok, Err}
 use Rattle.std.proofs.Math.Seq.{slice}
 use Rattle.meaning.specs.Rules.{◌⇒◌∣◌}
 use Rattle.meaning.specs.Refusals.{cut_short, size_wrong, not_utf8}
@@ -8,24 +8,30 @@ use Rattle.meaning.specs.Numbers.{of_two}
 use Rattle.meaning.specs.Utf8.{utf8}
 use Rattle.meaning.specs.FirstByte.{short_blanks, prim_byte}
 use Rattle.leaves.specs.Leb.{leb_at}
+use Rattle.leaves.specs.Faults.{refusal}
+use Rattle.leaves.specs.declared.refusals.Refusal.{Refusal}
 use Rattle.leaves.specs.declared.Leb.{Leb}
-use Rattle.leaves.specs.declared.Leb.TheVariants.{Number, Fault}
 use Rattle.payloads.specs.declared.first.Kind.{Kind}
 use Rattle.payloads.specs.declared.first.Kind.TheVariants.{Array, Map, Record, Function, Symbol, Variable}
 use Rattle.payloads.specs.declared.Text.{Text}
-use Rattle.payloads.specs.declared.Text.TheVariants.{Whole, Bad}
 use Rattle.payloads.specs.declared.Opening.{Opening}
-use Rattle.payloads.specs.declared.Opening.TheVariants.{Items, Closed}
+
+-- a text that starts at a place, with the place after it; a list of so many items that starts at a place, in a payload that ends at stop
+abbrev pub text_of : ℕ → ℕ → Text
+text_of start next = record { start = start; next = next }
+
+abbrev pub opening_of : ℕ → ℕ → ℕ → Opening
+opening_of stop from count = record { stop = stop; from = from; count = count }
 
 -- a text after its length
-unfoldable pub text_from : List ℕ → ℕ → ℕ → Leb → Text
-text_from s end at (Fault number) = Bad number at
-text_from s end at (Number size start) =
-    ltb (end - start) size ⇒ Bad cut_short at ∣ λ _.
-    utf8 (slice start (start + size) s) ⇒ Whole start (start + size) ∣ λ _.
-    Bad not_utf8 start
+unfoldable pub text_from : List ℕ → ℕ → ℕ → Result Leb Refusal → Result Text Refusal
+text_from s end at (Err r) = Err r
+text_from s end at (Ok size) =
+    ltb (end - size.next) size.value ⇒ Err (refusal cut_short at) ∣ λ _.
+    utf8 (slice size.next (size.next + size.value) s) ⇒ Ok (text_of size.next (size.next + size.value)) ∣ λ _.
+    Err (refusal not_utf8 size.next)
 
-unfoldable pub text_at : List ℕ → ℕ → ℕ → Text
+unfoldable pub text_at : List ℕ → ℕ → ℕ → Result Text Refusal
 text_at s end at = text_from s end at (leb_at s end at)
 
 -- whether each item of a payload's list has a text, and whether it has a shape
@@ -46,39 +52,39 @@ shaped Symbol = false
 shaped Variable = false
 
 -- an item's text, where it has one
-unfoldable pub label_at : List ℕ → ℕ → ℕ → Kind → Text
-label_at s end at kind = named kind ⇒ text_at s end at ∣ λ _. Whole at at
+unfoldable pub label_at : List ℕ → ℕ → ℕ → Kind → Result Text Refusal
+label_at s end at kind = named kind ⇒ text_at s end at ∣ λ _. Ok (text_of at at)
 
 -- the list of a payload from start to stop: where it starts and how many items it has
-unfoldable pub counted_by : ℕ → ℕ → ℕ → Leb → Opening
-counted_by stop start more (Fault number) = Closed number start
-counted_by stop start more (Number count from) = Items stop from (count + more)
+unfoldable pub counted_by : ℕ → ℕ → Result Leb Refusal → Result Opening Refusal
+counted_by stop more (Err r) = Err r
+counted_by stop more (Ok count) = Ok (opening_of stop count.next (count.value + more))
 
-unfoldable pub counted_at : List ℕ → ℕ → ℕ → ℕ → Opening
-counted_at s stop start more = counted_by stop start more (leb_at s stop start)
+unfoldable pub counted_at : List ℕ → ℕ → ℕ → ℕ → Result Opening Refusal
+counted_at s stop start more = counted_by stop more (leb_at s stop start)
 
-unfoldable pub list_of : List ℕ → ℕ → ℕ → ℕ → Kind → Opening
-list_of s at start stop Array = Items stop start 1
-list_of s at start stop Map = Items stop start 2
+unfoldable pub list_of : List ℕ → ℕ → ℕ → ℕ → Kind → Result Opening Refusal
+list_of s at start stop Array = Ok (opening_of stop start 1)
+list_of s at start stop Map = Ok (opening_of stop start 2)
 list_of s at start stop Record = counted_at s stop start 0
 list_of s at start stop Function = counted_at s stop start 1
 list_of s at start stop Symbol = counted_at s stop start 0
-list_of s at start stop Variable = eqb (stop - start) 2 ⇒ Items stop stop 0 ∣ λ _. Closed size_wrong at
+list_of s at start stop Variable = eqb (stop - start) 2 ⇒ Ok (opening_of stop stop 0) ∣ λ _. Err (refusal size_wrong at)
 
 -- after the first byte come the size and the payload
 abbrev pub size_at : List ℕ → ℕ → ℕ
 size_at s at = of_two (get_or s at 0) (get_or s (at + 1) 0)
 
-unfoldable pub opening_at : List ℕ → ℕ → ℕ → Kind → Opening
+unfoldable pub opening_at : List ℕ → ℕ → ℕ → Kind → Result Opening Refusal
 opening_at s end at kind =
-    ltb (end - at) 3 ⇒ Closed cut_short at ∣ λ _.
-    ltb (end - at - 3) (size_at s (at + 1)) ⇒ Closed cut_short at ∣ λ _.
+    ltb (end - at) 3 ⇒ Err (refusal cut_short at) ∣ λ _.
+    ltb (end - at - 3) (size_at s (at + 1)) ⇒ Err (refusal cut_short at) ∣ λ _.
     list_of s at (at + 3) (at + 3 + size_at s (at + 1)) kind
 
 -- what every list has: its payload lies in the window, and its items are few
-abbrev pub OpeningInside : ℕ → ℕ → Opening → Type 0
-OpeningInside start end (Items stop from count) = (start ≤ stop) × (stop ≤ end) × (count ≤ 16384)
-OpeningInside start end (Closed number place) = Unit {0}
+abbrev pub OpeningInside : ℕ → ℕ → Result Opening Refusal → Type 0
+OpeningInside start end (Ok o) = (start ≤ o.stop) × (o.stop ≤ end) × (o.count ≤ 16384)
+OpeningInside start end (Err r) = Unit {0}
 
 -- a byte is a primitive, a primitive stands there
 abbrev pub primitive : ℕ → Bool

@@ -2,8 +2,9 @@
 ghost use Rattle.std.specs.Prelude.{◌≡◌};
 ghost use Rattle.meaning.specs.FirstByte.{class_of};
 ghost use Rattle.payloads.specs.First.{first_said};
+ghost use Rattle.payloads.specs.Payload.{named, shaped};
 
-// The code's one place for first bytes.
+// The code's one place for first bytes: bytes of the format, which the match below gives their kinds.
 pub const SHORT_BLANKS: u8 = 32;
 
 pub const PRIMITIVES: u8 = 32;
@@ -29,7 +30,7 @@ pub const PACKED_MAPS: u8 = 101;
 pub const PAST_PACKED: u8 = 126;
 
 // What a payload holds.
-#[derive(Clone, Copy)]
+#[derive(Clone, Copy, PartialEq, Eq)]
 pub enum Kind {
     Array,
     Map,
@@ -39,7 +40,29 @@ pub enum Kind {
     Variable,
 }
 
-// A shape of one byte, with its depth, or one with a size and a payload.
+impl Kind {
+    // Whether each item of a payload's list has a text.
+    pub fn is_named(self) -> bool
+        ensures { result ≡ named self }
+    {
+        match self {
+            Kind::Record | Kind::Symbol => true,
+            Kind::Array | Kind::Map | Kind::Function | Kind::Variable => false,
+        }
+    }
+
+    // Whether each item of a payload's list has a shape.
+    pub fn is_shaped(self) -> bool
+        ensures { result ≡ shaped self }
+    {
+        match self {
+            Kind::Array | Kind::Map | Kind::Record | Kind::Function => true,
+            Kind::Symbol | Kind::Variable => false,
+        }
+    }
+}
+
+// What a first byte says: a shape of one byte, with its depth, or one with a size and a payload.
 #[derive(Clone, Copy)]
 pub enum First {
     Unassigned,
@@ -47,43 +70,25 @@ pub enum First {
     Long { kind: Kind },
 }
 
-// Classes a first byte.
-pub fn first_of(b: u8) -> First
-    ensures { result ≡ first_said (class_of b) }
-{
-    if b < SHORT_BLANKS {
-        return First::Short { levels: 1 };
+impl From<u8> for First {
+    ghost from_gives = { λ b first. first ≡ first_said (class_of b) };
+
+    #[tactic(auto, using(meaning::proofs::Rules::tests), unfolding(meaning::specs::FirstByte::class_of))]
+    fn from(b: u8) -> First {
+        match b {
+            0..PAST_PRIMITIVES => First::Short { levels: 1 },
+            ARRAY => First::Long { kind: Kind::Array },
+            MAP => First::Long { kind: Kind::Map },
+            RECORD => First::Long { kind: Kind::Record },
+            FUNCTION => First::Long {
+                kind: Kind::Function,
+            },
+            SYMBOL => First::Long { kind: Kind::Symbol },
+            VARIABLE => First::Long {
+                kind: Kind::Variable,
+            },
+            PACKED..PAST_PACKED => First::Short { levels: 2 },
+            _ => First::Unassigned,
+        }
     }
-    if b < PAST_PRIMITIVES {
-        return First::Short { levels: 1 };
-    }
-    if b == ARRAY {
-        return First::Long { kind: Kind::Array };
-    }
-    if b == MAP {
-        return First::Long { kind: Kind::Map };
-    }
-    if b == RECORD {
-        return First::Long { kind: Kind::Record };
-    }
-    if b == FUNCTION {
-        return First::Long {
-            kind: Kind::Function,
-        };
-    }
-    if b == SYMBOL {
-        return First::Long { kind: Kind::Symbol };
-    }
-    if b == VARIABLE {
-        return First::Long {
-            kind: Kind::Variable,
-        };
-    }
-    if b < PACKED {
-        return First::Unassigned;
-    }
-    if b < PAST_PACKED {
-        return First::Short { levels: 2 };
-    }
-    First::Unassigned
 }

@@ -4,231 +4,161 @@
 pub mod first;
 
 ghost use Rattle.std.specs.Prelude.{◌≡◌, ◌≤◌, ◌<◌, ◌+◌, length};
-ghost use Rattle.payloads.specs.Payload.{text_at, label_at, named, shaped, counted_at, list_of, opening_at, OpeningInside, primitive_at, small_at, short_form_of};
+ghost use Rattle.payloads.specs.Payload.{text_at, label_at, counted_at, list_of, opening_at, OpeningInside, primitive_at, small_at, short_form_of};
 
 use first::{Kind, PAST_PRIMITIVES, PRIMITIVES, SHORT_BLANKS};
-use leaves::Leb;
-use leaves::refusals::{CUT_SHORT, NOT_UTF8, SIZE_WRONG};
+use leaves::refusals::{Fault, Refusal};
 
-// A text with its length before it.
+// A text with its length before it: where it starts, and the place after it.
 #[derive(Clone, Copy)]
-pub enum Text {
-    Whole { start: usize, next: usize },
-    Bad { number: usize, place: usize },
+pub struct Text {
+    pub start: usize,
+    pub next: usize,
 }
 
 // The text whose length stands at a place.
-pub fn text_at(s: &[u8], end: usize, at: usize) -> Text
-    requires { end ≤ length s.now }
-    ensures { result ≡ text_at s.now end at }
+#[tactic(auto, using(meaning::proofs::Rules::tests), unfolding(crate::specs::Payload::text_at, crate::specs::Payload::text_from))]
+pub fn text_at(w: &[u8], at: usize) -> Result<Text, Refusal>
+    ensures { result ≡ text_at w.now (length w.now) at }
 {
-    match leaves::leb128(s, end, at) {
-        Leb::Fault { number } => Text::Bad { number, place: at },
-        Leb::Number { value, next } => {
-            if end - next < value {
-                return Text::Bad {
-                    number: CUT_SHORT,
-                    place: at,
-                };
-            }
-            let stop = next + value;
-            if leaves::well_formed_to(s, stop, next) == stop {
-                Text::Whole {
-                    start: next,
-                    next: stop,
-                }
-            } else {
-                Text::Bad {
-                    number: NOT_UTF8,
-                    place: next,
-                }
-            }
-        }
+    let size = leaves::leb128(w, at)?;
+    let start = size.next;
+    if w.len() - start < size.value {
+        return Err(Refusal {
+            fault: Fault::CutShort,
+            place: at,
+        });
     }
-}
-
-// Whether each item of a payload's list has a text.
-pub fn named_kind(kind: Kind) -> bool
-    ensures { result ≡ named kind }
-{
-    match kind {
-        Kind::Array => false,
-        Kind::Map => false,
-        Kind::Record => true,
-        Kind::Function => false,
-        Kind::Symbol => true,
-        Kind::Variable => false,
-    }
-}
-
-// Whether each item of a payload's list has a shape.
-pub fn shaped_kind(kind: Kind) -> bool
-    ensures { result ≡ shaped kind }
-{
-    match kind {
-        Kind::Array => true,
-        Kind::Map => true,
-        Kind::Record => true,
-        Kind::Function => true,
-        Kind::Symbol => false,
-        Kind::Variable => false,
+    let next = start + size.value;
+    if leaves::well_formed_to(&w[..next], start) == next {
+        Ok(Text { start, next })
+    } else {
+        Err(Refusal {
+            fault: Fault::NotUtf8,
+            place: start,
+        })
     }
 }
 
 // An item's text, where it has one.
-pub fn label_at(s: &[u8], end: usize, at: usize, kind: Kind) -> Text
-    requires { end ≤ length s.now }
-    ensures { result ≡ label_at s.now end at kind }
+#[tactic(auto, unfolding(crate::specs::Payload::label_at))]
+pub fn label_at(w: &[u8], at: usize, kind: Kind) -> Result<Text, Refusal>
+    ensures { result ≡ label_at w.now (length w.now) at kind }
 {
-    if named_kind(kind) {
-        text_at(s, end, at)
+    if kind.is_named() {
+        text_at(w, at)
     } else {
-        Text::Whole {
+        Ok(Text {
             start: at,
             next: at,
-        }
+        })
     }
 }
 
 // The list of a payload: where the payload ends, where the list starts, and how many items it has.
 #[derive(Clone, Copy)]
-pub enum Opening {
-    Items {
-        stop: usize,
-        from: usize,
-        count: usize,
-    },
-    Closed {
-        number: usize,
-        place: usize,
-    },
+pub struct Opening {
+    pub stop: usize,
+    pub from: usize,
+    pub count: usize,
 }
 
-// A list with its count before it; a Function's return is one item more.
-fn counted(s: &[u8], stop: usize, start: usize, more: usize) -> Opening
-    requires { (start ≤ stop) × (stop ≤ length s.now) × (more ≤ 1) }
-    ensures is { result ≡ counted_at s.now stop start more }
-    ensures inside { OpeningInside start stop result }
+// A list with its count before it, in a payload's window; a Function's return is one item more.
+#[tactic(auto, unfolding(crate::specs::Payload::counted_at, crate::specs::Payload::counted_by))]
+fn counted(w: &[u8], start: usize, more: usize) -> Result<Opening, Refusal>
+    requires { (start ≤ length w.now) × (more ≤ 1) }
+    ensures is { result ≡ counted_at w.now (length w.now) start more }
+    ensures inside { OpeningInside start (length w.now) result }
 {
-    match leaves::leb128(s, stop, start) {
-        Leb::Fault { number } => Opening::Closed {
-            number,
-            place: start,
-        },
-        Leb::Number { value, next } => Opening::Items {
-            stop,
-            from: next,
-            count: value + more,
-        },
-    }
+    let count = leaves::leb128(w, start)?;
+    Ok(Opening {
+        stop: w.len(),
+        from: count.next,
+        count: count.value + more,
+    })
 }
 
-// The list of a payload from start to stop; at is the shape's place.
-fn list_of(s: &[u8], at: usize, start: usize, stop: usize, kind: Kind) -> Opening
-    requires { (start ≤ stop) × (stop ≤ length s.now) }
-    ensures is { result ≡ list_of s.now at start stop kind }
-    ensures inside { OpeningInside start stop result }
+// The list of a payload from start to its window's end; at is the shape's place.
+#[tactic(auto, using(meaning::proofs::Rules::tests), unfolding(crate::specs::Payload::list_of))]
+fn list_of(w: &[u8], at: usize, start: usize, kind: Kind) -> Result<Opening, Refusal>
+    requires { start ≤ length w.now }
+    ensures is { result ≡ list_of w.now at start (length w.now) kind }
+    ensures inside { OpeningInside start (length w.now) result }
 {
+    let stop = w.len();
     match kind {
-        Kind::Array => Opening::Items {
+        Kind::Array => Ok(Opening {
             stop,
             from: start,
             count: 1,
-        },
-        Kind::Map => Opening::Items {
+        }),
+        Kind::Map => Ok(Opening {
             stop,
             from: start,
             count: 2,
-        },
-        Kind::Record => counted(s, stop, start, 0),
-        Kind::Function => counted(s, stop, start, 1),
-        Kind::Symbol => counted(s, stop, start, 0),
-        Kind::Variable => {
-            if stop - start == 2 {
-                Opening::Items {
-                    stop,
-                    from: stop,
-                    count: 0,
-                }
-            } else {
-                Opening::Closed {
-                    number: SIZE_WRONG,
-                    place: at,
-                }
-            }
-        }
+        }),
+        Kind::Record | Kind::Symbol => counted(w, start, 0),
+        Kind::Function => counted(w, start, 1),
+        Kind::Variable if stop - start == 2 => Ok(Opening {
+            stop,
+            from: stop,
+            count: 0,
+        }),
+        Kind::Variable => Err(Refusal {
+            fault: Fault::SizeWrong,
+            place: at,
+        }),
     }
 }
 
 // After the first byte at a place come the size and the payload with its list.
-pub fn opening_at(s: &[u8], end: usize, at: usize, kind: Kind) -> Opening
-    requires { (at < end) × (end ≤ length s.now) }
-    ensures is { result ≡ opening_at s.now end at kind }
-    ensures inside { OpeningInside (at + 3) end result }
+#[tactic(auto, using(meaning::proofs::Rules::tests, crate::proofs::Fronts::list_window), unfolding(crate::specs::Payload::opening_at))]
+pub fn opening_at(w: &[u8], at: usize, kind: Kind) -> Result<Opening, Refusal>
+    requires { at < length w.now }
+    ensures is { result ≡ opening_at w.now (length w.now) at kind }
+    ensures inside { OpeningInside (at + 3) (length w.now) result }
 {
-    if end - at < 3 {
-        return Opening::Closed {
-            number: CUT_SHORT,
-            place: at,
-        };
+    let cut_short = Err(Refusal {
+        fault: Fault::CutShort,
+        place: at,
+    });
+    if w.len() - at < 3 {
+        return cut_short;
     }
-    let size = leaves::two_at(s, at + 1);
-    if end - at - 3 < size {
-        return Opening::Closed {
-            number: CUT_SHORT,
-            place: at,
-        };
+    let size = leaves::two_at(w, at + 1);
+    if w.len() - at - 3 < size {
+        return cut_short;
     }
-    list_of(s, at, at + 3, at + 3 + size, kind)
+    list_of(&w[..at + 3 + size], at, at + 3, kind)
 }
 
 // Whether a primitive stands at a place.
-fn primitive_at(s: &[u8], end: usize, at: usize) -> bool
-    requires { end ≤ length s.now }
-    ensures { result ≡ primitive_at s.now end at }
+#[tactic(auto, using(meaning::proofs::Rules::tests), unfolding(crate::specs::Payload::primitive_at))]
+fn primitive_at(w: &[u8], at: usize) -> bool
+    ensures { result ≡ primitive_at w.now (length w.now) at }
 {
-    if end <= at {
-        return false;
-    }
-    let b = s[at];
-    if b < PRIMITIVES {
-        return false;
-    }
-    b < PAST_PRIMITIVES
+    at < w.len() && matches!(w[at], PRIMITIVES..PAST_PRIMITIVES)
 }
 
 // Whether the two bytes at a place are the number of a short blank.
-fn small_at(s: &[u8], end: usize, at: usize) -> bool
-    requires { (at ≤ end) × (end ≤ length s.now) }
-    ensures { result ≡ small_at s.now end at }
+#[tactic(auto, using(meaning::proofs::Rules::tests), unfolding(crate::specs::Payload::small_at))]
+fn small_at(w: &[u8], at: usize) -> bool
+    requires { at ≤ length w.now }
+    ensures { result ≡ small_at w.now (length w.now) at }
 {
-    if end - at < 2 {
-        return false;
-    }
-    if s[at + 1] == 0 {
-        s[at] < SHORT_BLANKS
-    } else {
-        false
-    }
+    2 <= w.len() - at && w[at + 1] == 0 && w[at] < SHORT_BLANKS
 }
 
-// Whether the shape whose payload is read to its end has a form of one byte too.
-pub fn short_form_of(s: &[u8], start: usize, stop: usize, kind: Kind) -> bool
-    requires { (start ≤ stop) × (stop ≤ length s.now) }
-    ensures { result ≡ short_form_of s.now start stop kind }
+// Whether the shape whose payload is read to its end, its window's, has a form of one byte too.
+#[tactic(auto, unfolding(crate::specs::Payload::short_form_of))]
+pub fn short_form_of(w: &[u8], start: usize, kind: Kind) -> bool
+    requires { start ≤ length w.now }
+    ensures { result ≡ short_form_of w.now start (length w.now) kind }
 {
     match kind {
-        Kind::Array => primitive_at(s, stop, start),
-        Kind::Map => {
-            if primitive_at(s, stop, start) {
-                primitive_at(s, stop, start + 1)
-            } else {
-                false
-            }
-        }
-        Kind::Record => false,
-        Kind::Function => false,
-        Kind::Symbol => false,
-        Kind::Variable => small_at(s, stop, start),
+        Kind::Array => primitive_at(w, start),
+        Kind::Map => primitive_at(w, start) && primitive_at(w, start + 1),
+        Kind::Record | Kind::Function | Kind::Symbol => false,
+        Kind::Variable => small_at(w, start),
     }
 }

@@ -20,14 +20,15 @@ use Rattle.meaning.specs.Rules.{◌⇒◌∣◌}
 use Rattle.meaning.specs.Limits.{max_bytes, max_levels}
 use Rattle.meaning.specs.Refusals.{cut_short}
 use Rattle.meaning.specs.Within.{Bytes}
-use Rattle.meaning.specs.Reading.{reading}
+use Rattle.meaning.specs.Shape.{Shape}
+use Rattle.meaning.specs.Reading.{Reading, got, bad, reading}
 use Rattle.meaning.proofs.Rules.{rule}
 use Rattle.payloads.specs.declared.first.Kind.{Kind}
 use Rattle.payloads.specs.declared.first.Kind.TheVariants.{Array, Map, Record, Function, Symbol, Variable}
-use Rattle.reader.specs.declared.Judgement.{Judgement}
-use Rattle.reader.specs.Said.{said}
+use Rattle.std.specs.Prelude.{Result}
+use Rattle.reader.specs.declared.Accepted.{Accepted}
+use Rattle.pieces.specs.declared.Faulty as Answer
 use Rattle.reader.specs.Walk.{Out, came, stopped}
-use Rattle.reader.proofs.Whole.{judged}
 use Rattle.byte_steps.specs.declared.modes.Items.{Items}
 use Rattle.byte_steps.specs.declared.modes.Items.TheVariants.{Plain, Bare, Fields, Texts}
 use Rattle.byte_steps.specs.declared.modes.Level.{Level}
@@ -37,8 +38,8 @@ use Rattle.byte_steps.specs.declared.modes.Mode.TheVariants.{Head, SizeLow, Size
 use Rattle.byte_steps.specs.Automaton.{plain, item_due, shape_due, length_due, count_due, level_of, whole_of, taken, settle, opened, entered, step, fed, start, verdict, finish, Run, run}
 use Rattle.turns.specs.Moves.{resting, sized}
 use Rattle.states.specs.Kept.{entry_of, kinds_of, kind_number, kind_in, word_of, mode_in, mode_high, stack_of, laid_out, run_of, state_with, state_of}
-use Rattle.pieces.specs.Led.{closed_of, judged_out, led_to, LettersOnly, lettered, Small}
-use Rattle.byte_steps.proofs.Fed.{fed-parts, fed-said}
+use Rattle.pieces.specs.Led.{closed_of, finish_said, judged_out, led_to, LettersOnly, lettered, Small}
+use Rattle.byte_steps.proofs.Fed.{read_out, fed-parts, fed-said}
 use Rattle.items.proofs.Inside.{letters-on}
 use Rattle.turns.proofs.Moving.{fair-taken}
 use Rattle.states.proofs.Keeping.{stack_push, high-digits, level_in_lem, letters-in}
@@ -192,9 +193,9 @@ pub letters-led : (u v : List ℕ) (s : State) (size : ℕ) → s ≡ led_to u �
 letters-led u v s size e p h = rw e (letters-fed (fed start u) v size 0 (led-fair u) p (rw e at h) ∙ part-led u v (fed (fed start u) v) refl)
 
 -- The finish says what reading means,
-judged-same : (o : Out ℕ) → judged_out o ≡ judged o
-judged-same (came n d) = refl
-judged-same (stopped n p) = refl
+judged-same : (r : Reading Shape) → judged_out (read_out r) ≡ finish_said r
+judged-same (got t w) = refl
+judged-same (bad n p) = refl
 
 byte_at : (u : List ℕ) → Bytes u → (i : ℕ) → get_or u i 0 < 256
 byte_at [] b i = omega arith
@@ -202,8 +203,8 @@ byte_at (x ∷ u) b zero = b.0
 byte_at (x ∷ u) b (suc i) = byte_at u b.1 i
 
 -- also of a state that was finished: whether it was is no part of what it stands for.
-pub finish-led : (u : List ℕ) (s : State) → Bytes u → closed_of s ≡ closed_of (led_to u) → judged_out (finish (run_of s)) ≡ said (reading u)
-finish-led u s b e = ap (λ (x : State). judged_out (finish (run_of x))) e ∙ ap (λ x. judged_out (finish x)) (led-run u) ∙ judged-same (finish (fed start u)) ∙ fed-said u (byte_at u b)
+pub finish-led : (u : List ℕ) (s : State) → Bytes u → closed_of s ≡ closed_of (led_to u) → judged_out (finish (run_of s)) ≡ finish_said (reading u)
+finish-led u s b e = ap (λ (x : State). judged_out (finish (run_of x))) e ∙ ap (λ x. judged_out (finish x)) (led-run u) ∙ ap judged_out (fed-said u (byte_at u b)) ∙ judged-same (reading u)
 
 -- What it says of any state whose numbers fit two bytes fits them.
 module _ (s : State) (a : s.next.a < 65536) (b : s.next.b < 65536) (count : s.count < 65536) (whole : s.whole < 65536) (deepest : s.deepest < 65536) where
@@ -247,5 +248,5 @@ part-can s v = (
   λ u e. rw (e, led-run u) (part-led u v (fed (fed start u) v) refl),
 )
 
-pub finish-can : (s : State) → (a : Judgement) × ((u : List ℕ) → Bytes u → closed_of s ≡ closed_of (led_to u) → a ≡ said (reading u))
+pub finish-can : (s : State) → (a : Result Accepted Answer.Faulty) × ((u : List ℕ) → Bytes u → closed_of s ≡ closed_of (led_to u) → a ≡ finish_said (reading u))
 finish-can s = (judged_out (finish (run_of s)), λ u. finish-led u s)

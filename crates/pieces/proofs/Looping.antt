@@ -9,7 +9,7 @@ use mathlib.Core.Path.{◌≡◌, refl, ap, sym, ◌∙◌, subst}
 use mathlib.Core.List.{List, [], ◌∷◌, ◌++◌}
 use Prim.Native.Nat.{ℕ, zero, suc, ◌+◌, ◌-◌, ◌/◌, ◌≤◌, ◌<◌}
 use native.Mathlib.Omega.{arith}
-use lib.ListN.{length, get_or, set, drop, length-set, drop_of_length-le, replicate}
+use lib.ListN.{length, get_or, set, drop, drop_of_length-le, replicate}
 use lib.Seq.{get_or-set_same, get_or-set_other, set-get_or, set-set}
 use Rattle.meaning.specs.Limits.{max_levels}
 use Rattle.byte_steps.specs.declared.modes.Level.{Level}
@@ -40,7 +40,6 @@ pub record Held (u s : List ℕ) (es : List Entry) (kinds : ℕ) (m : Mode) (top
 pub record Inv (s : List ℕ) (given : State) (es : List Entry) (kinds : ℕ) (m : Mode) (top : Level) (n count whole deepest i : ℕ) : Type 0 where
   pub fair : n + sized m ≤ max_levels
   pub within : i ≤ length s
-  pub size : length es ≡ max_levels
   pub led : (u : List ℕ) → given ≡ led_to u → Held u s es kinds m top n count whole deepest i
 
 held_start : (u s : List ℕ) → Held u s (led_to u).levels ((led_to u).kinds / 4) (mode_in (led_to u).next) (level_in (led_to u).top (led_to u).kinds) (led_to u).used (led_to u).count (led_to u).whole (led_to u).deepest 0
@@ -55,12 +54,11 @@ held_start u s =
       same = rw (level_in_lem r.top (kinds_of r.stack), mode-in r.mode f.rests, enter-rest r.mode r.stack r.top r.count r.whole r.deepest f.rests);
     }
 
-pub inv-start : (s : List ℕ) (given : State) → given.used + sized (mode_in given.next) ≤ max_levels → length given.levels ≡ max_levels
+pub inv-start : (s : List ℕ) (given : State) → given.used + sized (mode_in given.next) ≤ max_levels
     → Inv s given given.levels (given.kinds / 4) (mode_in given.next) (level_in given.top given.kinds) given.used given.count given.whole given.deepest 0
-inv-start s given f l = record {
+inv-start s given f = record {
   fair = f;
   within = omega arith;
-  size = l;
   led = λ u e. subst (λ (g : State). Held u s g.levels (g.kinds / 4) (mode_in g.next) (level_in g.top g.kinds) g.used g.count g.whole g.deepest 0) (sym e) (held_start u s);
 }
 
@@ -103,7 +101,6 @@ module _ {s : List ℕ} {given : State} {es : List Entry} {kinds : ℕ} {m : Mod
   inv-stay e = record {
     fair = (light Stay e).1;
     within = lead.within;
-    size = inv.size;
     led = λ u g. let h = inv.led u g in record { stack = h.stack; high = h.high; levels = h.levels; digits = h.digits; same = on Stay e h };
   }
 
@@ -129,7 +126,6 @@ module _ {s : List ℕ} {given : State} {es : List Entry} {kinds : ℕ} {m : Mod
   inv-push e = record {
     fair = (light Push e).2;
     within = lead.within;
-    size = length-set es n (entry_of top) ∙ inv.size;
     led = λ u g. push-held e (inv.led u g);
   }
 
@@ -157,7 +153,6 @@ module _ {s : List ℕ} {given : State} {es : List Entry} {kinds : ℕ} {m : Mod
   inv-pop e z = record {
     fair = (light Pop e).2;
     within = lead.within;
-    size = length-set es (n - 1) no_entry ∙ inv.size;
     led = λ u g. let h = inv.led u g in pop-held e z h.stack h.high h.levels h.digits (on Pop e h);
   }
 

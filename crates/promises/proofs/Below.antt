@@ -6,7 +6,6 @@
 --     numbered, placed, sized, more    the fields of an answer that is known
 --     read-accepted, sheet-sound, child-part, child-packed, name-text     by the four numbers, what the call below answered
 --     fill-wrote .. table-wrote                                           the same of the calls that write
---     fill-some .. table-some          a refusal of a call that writes has a number
 --     makes                            what is made, in four numbers
 --     read-said .. sheet-said          what is said of bytes, in four numbers
 --     fill-makes .. table-makes        what is answered in every room that there is for it, every run makes
@@ -22,31 +21,30 @@ use Rattle.meaning.specs.Reading.{reading}
 use Rattle.meaning.specs.SheetReading.{read_sheet}
 use Rattle.meaning.specs.Answers.{in_room, fill_answer, join_answer, write_answer, table_answer}
 use Rattle.meaning.proofs.Answers.{room-enough, room-lacks}
-use Rattle.buffers.specs.declared.Made.{Made}
-use Rattle.buffers.specs.declared.Made.TheVariants.{Written, Refused}
-use Rattle.reader.specs.declared.Judgement.{Judgement}
-use Rattle.reader.specs.declared.Judgement.TheVariants as judged
-use Rattle.reader.specs.Said.{said}
-use Rattle.parts.specs.declared.FoundChild.{FoundChild}
+use Rattle.meaning.proofs.Bounds.{fill-small, join-small}
+use Rattle.meaning.proofs.TableAnswers.{write-small, table-small}
+use Rattle.std.specs.Prelude.{Ok, Err}
+use Rattle.leaves.proofs.Faults.{fault-some}
+use Rattle.buffers.specs.Said.{made_said}
+use Rattle.reader.specs.Said.{said, accepted}
 use Rattle.parts.specs.declared.FoundChild.TheVariants as child
-use Rattle.parts.specs.declared.FoundName.{FoundName}
-use Rattle.parts.specs.declared.FoundName.TheVariants as name
-use Rattle.parts.specs.Said.{child_said, name_said}
-use Rattle.sheets.specs.declared.Checked.{Checked}
-use Rattle.sheets.specs.declared.Checked.TheVariants.{Sound, Broken}
-use Rattle.sheets.specs.Said.{checked}
+use Rattle.sheets.specs.Said.{checked, sound}
+use Rattle.parts.specs.Said.{child_said, name_said, name_of}
 use Rattle.editor.specs.declared.Node.{Node}
 use Rattle.editor.specs.Records.{records_answer, records_outcome}
 use Rattle.answers.specs.declared.Answer.{Answer}
-use Rattle.answers.specs.Answers.{refused, read_put, child_put, name_put, sheet_put, made_put}
+use Rattle.answers.specs.Answers.{refused, said_put, accepted_put, child_put, name_put, sound_put, written_put}
 use Rattle.board.proofs.Plain.{Parameters}
-use Rattle.answers.proofs.Small.{exported, exported-child, exported-name, exported-sheet}
+use Rattle.board.proofs.Small.{records-small}
+use Rattle.answers.proofs.Small.{exported, exported-child, exported-name, exported-sheet, exported-made}
 use Rattle.promises.specs.Told.{Answered, wrote, Makes}
-use Rattle.promises.proofs.Calls.{Lent, Buffer, One, Two, Three, OnBytes, OnPart, Into, IntoOfTwo, IntoOfRecords, Read, ChildOf, NameOf, Check, Fill, Join, Write, WriteRecords, Tabled, BoardRead, BoardChild, BoardName, BoardSheet, BoardFill, BoardJoin, BoardWrite, BoardRecords, BoardTable}
+use Rattle.promises.proofs.Calls.{Judged, ChildSaid, NameSaid, Checked, Made, Lent, Buffer, One, Two, Three, OnBytes, OnPart, Into, IntoOfTwo, IntoOfRecords, Read, ChildOf, NameOf, Check, Fill, Join, Write, WriteRecords, Tabled, BoardRead, BoardChild, BoardName, BoardSheet, BoardFill, BoardJoin, BoardWrite, BoardRecords, BoardTable}
 use Rattle.promises.proofs.Says.{MakesIn, read-says, child-says, name-says, check-says, fill-says, join-says, write-says, records-says, table-says}
 use Rattle.promises.proofs.Front.{front-holds, all-kept}
-use Rattle.promises.proofs.Refusing.{positive, read-refuses, read-numbers, child-refuses, name-refuses, part-numbers, fill-refuses, fill-numbers, join-refuses, join-numbers, write-refuses, write-numbers, table-refuses, table-numbers}
-use Rattle.promises.proofs.Records.{records-refuses, records-numbers}
+
+-- what a call that writes says, in four numbers
+abbrev pub made_put : Made → Answer
+made_put = said_put written_put
 
 -- the call below did the same and answered m, which the four numbers r tell
 pub record Below {M : Type 0} (put : M → Answer) (Run : M → Type 0) (r : Answer) : Type 0 where
@@ -80,35 +78,40 @@ module _ {R Q : Type 0} {before after : List ℕ} {r : R} {q : Q} where
   records-as c h = record { κs = c.κs; a = c.a; s = c.s; allowed = h; nodes-lent = c.nodes-lent; rest-lent = c.rest-lent; buffer_lent = c.buffer_lent; buffer-left = c.buffer-left; small = c.small }
 
 module _ {r : Answer} where
-  pub read_below : {bytes : List ℕ} → BoardRead bytes r → Below read_put (Read bytes) r
+  pub read_below : {bytes : List ℕ} → BoardRead bytes r → Below (said_put accepted_put) (Read bytes) r
   read_below {bytes} c = record { m = said (reading bytes); run = bytes-as c (rw c.lent); is = c.allowed ∙ rw c.lent (sym (exported bytes c.small).is) }
 
-  pub child-below : {bytes : List ℕ} {k : ℕ} → BoardChild bytes k r → Below child_put (ChildOf bytes k) r
+  pub child-below : {bytes : List ℕ} {k : ℕ} → BoardChild bytes k r → Below (said_put child_put) (ChildOf bytes k) r
   child-below {bytes} {k} c = record { m = child_said (reading bytes) k; run = part-as c (rw (c.lent, c.asked)); is = c.allowed ∙ rw (c.lent, c.asked) (sym (exported-child bytes c.small k).is) }
 
-  pub name_below : {bytes : List ℕ} {k : ℕ} → BoardName bytes k r → Below name_put (NameOf bytes k) r
+  pub name_below : {bytes : List ℕ} {k : ℕ} → BoardName bytes k r → Below (said_put name_put) (NameOf bytes k) r
   name_below {bytes} {k} c = record { m = name_said (reading bytes) k; run = part-as c (rw (c.lent, c.asked)); is = c.allowed ∙ rw (c.lent, c.asked) (sym (exported-name bytes c.small k).is) }
 
-  pub sheet-below : {sheet : List ℕ} → BoardSheet sheet r → Below sheet_put (Check sheet) r
+  pub sheet-below : {sheet : List ℕ} → BoardSheet sheet r → Below (said_put sound_put) (Check sheet) r
   sheet-below {sheet} c = record { m = checked (read_sheet sheet_broken sheet); run = bytes-as c (rw c.lent); is = c.allowed ∙ rw c.lent (sym (exported-sheet sheet c.small).is) }
 
   module _ {before after : List ℕ} where
     pub fill-below : {template sheet : List ℕ} → BoardFill template sheet before r after → Below made_put (λ m. Fill template sheet before m after) r
-    fill-below c = record { m = _; run = two-as c (refl, c.allowed.1); is = c.allowed.0 }
+    fill-below c = record { m = _; run = two-as c (refl, c.allowed.1); is = c.allowed.0 ∙ sym (exported-made _ (fill-small _ _ _)).is }
 
     pub join-below : {first second : List ℕ} → BoardJoin first second before r after → Below made_put (λ m. Join first second before m after) r
-    join-below c = record { m = _; run = two-as c (refl, c.allowed.1); is = c.allowed.0 }
+    join-below c = record { m = _; run = two-as c (refl, c.allowed.1); is = c.allowed.0 ∙ sym (exported-made _ (join-small _ _ _ (rw c.first-lent c.small.0) (rw c.second-lent c.small.1))).is }
 
     pub write-below : {table : List ℕ} → BoardWrite table before r after → Below made_put (λ m. Write table before m after) r
-    write-below c = record { m = _; run = into-as c (refl, c.allowed.1); is = c.allowed.0 }
+    write-below c = record { m = _; run = into-as c (refl, c.allowed.1); is = c.allowed.0 ∙ sym (exported-made _ (write-small _ _)).is }
 
     pub records-below : {nodes : List Node} {rest : List ℕ} → BoardRecords nodes rest before r after → Below made_put (λ m. WriteRecords nodes rest before m after) r
+    unfolding records_outcome
     records-below c =
-        let answer = (records_outcome c.a.0.now c.a.1.0.now c.a.1.1.0.now).0 in
-        record { m = answer; run = records-as c (ap (λ (o : Answer × List ℕ). (answer, o.1)) c.allowed); is = ap (λ (o : Answer × List ℕ). o.0) c.allowed }
+        let w = records_answer c.a.0.now c.a.1.0.now (length c.a.1.1.0.now) in
+        record {
+          m = made_said w;
+          run = records-as c (ap (λ (o : Answer × List ℕ). (made_said w, o.1)) c.allowed);
+          is = ap (λ (o : Answer × List ℕ). o.0) c.allowed ∙ sym (exported-made w (records-small _ _ _)).is;
+        }
 
     pub table_below : {bytes : List ℕ} → BoardTable bytes before r after → Below made_put (λ m. Tabled bytes before m after) r
-    table_below c = record { m = _; run = into-as c (refl, c.allowed.1); is = c.allowed.0 }
+    table_below c = record { m = _; run = into-as c (refl, c.allowed.1); is = c.allowed.0 ∙ sym (exported-made _ (table-small _ _ (rw c.lent c.small))).is }
 
 -- The fields of an answer that is known.
 pub numbered : {r a : Answer} → r ≡ a → r.number ≡ a.number
@@ -129,54 +132,54 @@ none-refused e l z = let q = numbered e in absurd (omega arith)
 
 module _ {r : Answer} (z : Answered r) where
   -- `shiulbart_read` answered: the encoding was accepted, with its length and depth.
-  pub read-accepted : {bytes : List ℕ} → BoardRead bytes r → Read bytes (judged.Accepted r.length r.extra)
+  pub read-accepted : {bytes : List ℕ} → BoardRead bytes r → Read bytes (Ok (accepted r.length r.extra))
   read-accepted {bytes} c = let b = read_below c in go b.m b.run b.is
     where
-      go : (m : Judgement) → Read bytes m → r ≡ read_put m → Read bytes (judged.Accepted r.length r.extra)
-      go (judged.Accepted l d) run e = rw (sized e, more e) run
-      go (judged.Refused n p) run e = none-refused e (positive (omega arith) (read-numbers bytes ((read-refuses run n p).0 refl))) z
+      go : (m : Judged) → Read bytes m → r ≡ said_put accepted_put m → Read bytes (Ok (accepted r.length r.extra))
+      go (Ok shape) run e = rw (sized e, more e) run
+      go (Err e') run e = none-refused e (fault-some e'.fault) z
 
   -- `shiulbart_sheet` answered: the sheet is sound, with its entries and bytes of encodings.
-  pub sheet-sound : {sheet : List ℕ} → BoardSheet sheet r → Check sheet (Sound r.extra r.length)
+  pub sheet-sound : {sheet : List ℕ} → BoardSheet sheet r → Check sheet (Ok (sound r.extra r.length))
   sheet-sound {sheet} c = let b = sheet-below c in go b.m b.run b.is
     where
-      go : (m : Checked) → Check sheet m → r ≡ sheet_put m → Check sheet (Sound r.extra r.length)
-      go (Sound entries bytes) run e = rw (sized e, more e) run
-      go (Broken p) run e = none-refused e (omega arith) z
+      go : (m : Checked) → Check sheet m → r ≡ said_put sound_put m → Check sheet (Ok (sound r.extra r.length))
+      go (Ok sheet) run e = rw (sized e, more e) run
+      go (Err e') run e = none-refused e (fault-some e'.fault) z
 
   -- `shiulbart_child` answered, with extra 0: there is such a child, at its place, of its length.
-  pub child-part : {bytes : List ℕ} {k : ℕ} → BoardChild bytes k r → r.extra ≡ 0 → ChildOf bytes k (child.Part r.place r.length)
+  pub child-part : {bytes : List ℕ} {k : ℕ} → BoardChild bytes k r → r.extra ≡ 0 → ChildOf bytes k (Ok (child.Part r.place r.length))
   child-part {bytes} {k} c x = let b = child-below c in go b.m b.run b.is
     where
-      go : (m : FoundChild) → ChildOf bytes k m → r ≡ child_put m → ChildOf bytes k (child.Part r.place r.length)
-      go (child.Part p l) run e = rw (placed e, sized e) run
-      go (child.Primitive n) run e = let q = more e in absurd (omega arith)
-      go (child.Refused n p) run e = none-refused e (positive (omega arith) (part-numbers ((child-refuses run n p).0 refl))) z
+      go : (m : ChildSaid) → ChildOf bytes k m → r ≡ said_put child_put m → ChildOf bytes k (Ok (child.Part r.place r.length))
+      go (Ok (child.Part p l)) run e = rw (placed e, sized e) run
+      go (Ok (child.Primitive n)) run e = let q = more e in absurd (omega arith)
+      go (Err e') run e = none-refused e (fault-some e'.fault) z
 
   -- With extra 1: there is such a child, a primitive of that number without bytes.
-  pub child-packed : {bytes : List ℕ} {k : ℕ} → BoardChild bytes k r → r.extra ≡ 1 → ChildOf bytes k (child.Primitive r.place)
+  pub child-packed : {bytes : List ℕ} {k : ℕ} → BoardChild bytes k r → r.extra ≡ 1 → ChildOf bytes k (Ok (child.Primitive r.place))
   child-packed {bytes} {k} c x = let b = child-below c in go b.m b.run b.is
     where
-      go : (m : FoundChild) → ChildOf bytes k m → r ≡ child_put m → ChildOf bytes k (child.Primitive r.place)
-      go (child.Part p l) run e = let q = more e in absurd (omega arith)
-      go (child.Primitive n) run e = rw (placed e) run
-      go (child.Refused n p) run e = none-refused e (positive (omega arith) (part-numbers ((child-refuses run n p).0 refl))) z
+      go : (m : ChildSaid) → ChildOf bytes k m → r ≡ said_put child_put m → ChildOf bytes k (Ok (child.Primitive r.place))
+      go (Ok (child.Part p l)) run e = let q = more e in absurd (omega arith)
+      go (Ok (child.Primitive n)) run e = rw (placed e) run
+      go (Err e') run e = none-refused e (fault-some e'.fault) z
 
   -- `shiulbart_name` answered: there is such a name, at its place, of its length.
-  pub name-text : {bytes : List ℕ} {k : ℕ} → BoardName bytes k r → NameOf bytes k (name.Text r.place r.length)
+  pub name-text : {bytes : List ℕ} {k : ℕ} → BoardName bytes k r → NameOf bytes k (Ok (name_of r.place r.length))
   name-text {bytes} {k} c = let b = name_below c in go b.m b.run b.is
     where
-      go : (m : FoundName) → NameOf bytes k m → r ≡ name_put m → NameOf bytes k (name.Text r.place r.length)
-      go (name.Text p l) run e = rw (placed e, sized e) run
-      go (name.Refused n p) run e = none-refused e (positive (omega arith) (part-numbers ((name-refuses run n p).0 refl))) z
+      go : (m : NameSaid) → NameOf bytes k m → r ≡ said_put name_put m → NameOf bytes k (Ok (name_of r.place r.length))
+      go (Ok text) run e = rw (placed e, sized e) run
+      go (Err e') run e = none-refused e (fault-some e'.fault) z
 
-  -- A call that writes answered: it wrote so many bytes, where a refusal of the call below has a number.
-  made-wrote : {Run : Made → Type 0} → Below made_put Run r → ((n p : ℕ) → Run (Refused n p) → 0 < n) → Run (Written r.length) × (r ≡ wrote r.length)
-  made-wrote {Run} b k = go b.m b.run b.is
+  -- A call that writes answered: it wrote so many bytes.
+  made-wrote : {Run : Made → Type 0} → Below made_put Run r → Run (Ok r.length) × (r ≡ wrote r.length)
+  made-wrote {Run} b = go b.m b.run b.is
     where
-      go : (m : Made) → Run m → r ≡ made_put m → Run (Written r.length) × (r ≡ wrote r.length)
-      go (Written n) run e = (rw (sized e) run, e ∙ rw (sized e))
-      go (Refused n p) run e = none-refused e (k n p run) z
+      go : (m : Made) → Run m → r ≡ made_put m → Run (Ok r.length) × (r ≡ wrote r.length)
+      go (Ok n) run e = (rw (sized e) run, e ∙ rw (sized e))
+      go (Err e') run e = none-refused e (fault-some e'.fault) z
 
 -- What the call below makes, the exported call makes.
 pub makes : {Run : Made → Type 0} {r : Answer} {w before after : List ℕ} (b : Below made_put Run r) → MakesIn w before b.m after → Makes w before r after
@@ -186,52 +189,36 @@ makes {w = w} {before = before} b s = record {
 }
 
 module _ {before after : List ℕ} where
-  -- A refusal of a call that writes has a number.
-  pub fill-some : {template sheet : List ℕ} (n p : ℕ) → Fill template sheet before (Refused n p) after → 0 < n
-  fill-some n p c = positive (omega arith) (fill-numbers ((fill-refuses c n p).0 refl))
-
-  pub join-some : {first second : List ℕ} (n p : ℕ) → Join first second before (Refused n p) after → 0 < n
-  join-some n p c = positive (omega arith) (join-numbers ((join-refuses c n p).0 refl))
-
-  pub write-some : {table : List ℕ} (n p : ℕ) → Write table before (Refused n p) after → 0 < n
-  write-some n p c = positive (omega arith) (write-numbers ((write-refuses c n p).0 refl))
-
-  pub records-some : {nodes : List Node} {rest : List ℕ} (n p : ℕ) → WriteRecords nodes rest before (Refused n p) after → 0 < n
-  records-some n p c = positive (omega arith) (records-numbers ((records-refuses c n p).0 refl))
-
-  pub table-some : {bytes : List ℕ} (n p : ℕ) → Tabled bytes before (Refused n p) after → 0 < n
-  table-some n p c = positive (omega arith) (table-numbers ((table-refuses c n p).0 refl))
-
   module _ {r : Answer} (z : Answered r) where
     -- A call that writes answered: it wrote so many bytes.
-    pub fill-wrote : {template sheet : List ℕ} → BoardFill template sheet before r after → Fill template sheet before (Written r.length) after × (r ≡ wrote r.length)
-    fill-wrote c = made-wrote z (fill-below c) fill-some
+    pub fill-wrote : {template sheet : List ℕ} → BoardFill template sheet before r after → Fill template sheet before (Ok r.length) after × (r ≡ wrote r.length)
+    fill-wrote c = made-wrote z (fill-below c)
 
-    pub join-wrote : {first second : List ℕ} → BoardJoin first second before r after → Join first second before (Written r.length) after × (r ≡ wrote r.length)
-    join-wrote c = made-wrote z (join-below c) join-some
+    pub join-wrote : {first second : List ℕ} → BoardJoin first second before r after → Join first second before (Ok r.length) after × (r ≡ wrote r.length)
+    join-wrote c = made-wrote z (join-below c)
 
-    pub write-wrote : {table : List ℕ} → BoardWrite table before r after → Write table before (Written r.length) after × (r ≡ wrote r.length)
-    write-wrote c = made-wrote z (write-below c) write-some
+    pub write-wrote : {table : List ℕ} → BoardWrite table before r after → Write table before (Ok r.length) after × (r ≡ wrote r.length)
+    write-wrote c = made-wrote z (write-below c)
 
-    pub records-wrote : {nodes : List Node} {rest : List ℕ} → BoardRecords nodes rest before r after → WriteRecords nodes rest before (Written r.length) after × (r ≡ wrote r.length)
-    records-wrote c = made-wrote z (records-below c) records-some
+    pub records-wrote : {nodes : List Node} {rest : List ℕ} → BoardRecords nodes rest before r after → WriteRecords nodes rest before (Ok r.length) after × (r ≡ wrote r.length)
+    records-wrote c = made-wrote z (records-below c)
 
-    pub table-wrote : {bytes : List ℕ} → BoardTable bytes before r after → Tabled bytes before (Written r.length) after × (r ≡ wrote r.length)
-    table-wrote c = made-wrote z (table_below c) table-some
+    pub table-wrote : {bytes : List ℕ} → BoardTable bytes before r after → Tabled bytes before (Ok r.length) after × (r ≡ wrote r.length)
+    table-wrote c = made-wrote z (table_below c)
 
 module _ {r : Answer} where
   -- What is said of bytes, in four numbers.
-  pub read-said : {bytes : List ℕ} {j : Judgement} → BoardRead bytes r → said (reading bytes) ≡ j → r ≡ read_put j
-  read-said c e = let b = read_below c in b.is ∙ ap read_put (read-says b.run ∙ e)
+  pub read-said : {bytes : List ℕ} {j : Judged} → BoardRead bytes r → said (reading bytes) ≡ j → r ≡ said_put accepted_put j
+  read-said c e = let b = read_below c in b.is ∙ ap (said_put accepted_put) (read-says b.run ∙ e)
 
-  pub child-said : {bytes : List ℕ} {k : ℕ} {j : FoundChild} → BoardChild bytes k r → child_said (reading bytes) k ≡ j → r ≡ child_put j
-  child-said c e = let b = child-below c in b.is ∙ ap child_put (child-says b.run ∙ e)
+  pub child-said : {bytes : List ℕ} {k : ℕ} {j : ChildSaid} → BoardChild bytes k r → child_said (reading bytes) k ≡ j → r ≡ said_put child_put j
+  child-said c e = let b = child-below c in b.is ∙ ap (said_put child_put) (child-says b.run ∙ e)
 
-  pub name-said : {bytes : List ℕ} {k : ℕ} {j : FoundName} → BoardName bytes k r → name_said (reading bytes) k ≡ j → r ≡ name_put j
-  name-said c e = let b = name_below c in b.is ∙ ap name_put (name-says b.run ∙ e)
+  pub name-said : {bytes : List ℕ} {k : ℕ} {j : NameSaid} → BoardName bytes k r → name_said (reading bytes) k ≡ j → r ≡ said_put name_put j
+  name-said c e = let b = name_below c in b.is ∙ ap (said_put name_put) (name-says b.run ∙ e)
 
-  pub sheet-said : {sheet : List ℕ} {j : Checked} → BoardSheet sheet r → checked (read_sheet sheet_broken sheet) ≡ j → r ≡ sheet_put j
-  sheet-said c e = let b = sheet-below c in b.is ∙ ap sheet_put (check-says b.run ∙ e)
+  pub sheet-said : {sheet : List ℕ} {j : Checked} → BoardSheet sheet r → checked (read_sheet sheet_broken sheet) ≡ j → r ≡ said_put sound_put j
+  sheet-said c e = let b = sheet-below c in b.is ∙ ap (said_put sound_put) (check-says b.run ∙ e)
 
   module _ {w before after : List ℕ} where
     -- What is answered in every room that there is for it, every run makes.

@@ -5,6 +5,7 @@
 --     OnBytes, OnPart, Into, IntoOfTwo, IntoOfRecords     a run, by what a call is lent, whatever its contract
 --     OnNothing, OnState, OnStateAndBytes                 a run of a call on a state
 --     Lent, Buffer, One, Two, Three                       what a call is lent: bytes, a buffer, and its parameters one after the other
+--     Judged, ChildSaid, NameSaid, Checked, Made        what a call below says
 -- Assumes nothing.
 use Prim.Native.Nat.{ℕ}
 use mathlib.Core.Path.{◌≡◌}
@@ -14,11 +15,12 @@ use denote.Ref.{Bor}
 use denote.MutBor.{MutBor}
 use Rattle.meaning.specs.Within.{Bytes}
 use Rattle.meaning.specs.TableReading.{NodesFit}
-use Rattle.buffers.specs.declared.Made.{Made}
-use Rattle.reader.specs.declared.Judgement.{Judgement}
+use Rattle.std.specs.Prelude.{Result}
+use Rattle.leaves.specs.declared.refusals.Refusal.{Refusal}
+use Rattle.reader.specs.declared.Accepted.{Accepted}
 use Rattle.parts.specs.declared.FoundChild.{FoundChild}
 use Rattle.parts.specs.declared.FoundName.{FoundName}
-use Rattle.sheets.specs.declared.Checked.{Checked}
+use Rattle.sheets.specs.declared.Sound.{Sound}
 use Rattle.editor.specs.declared.Node.{Node}
 use Rattle.editor.specs.Records.{meant}
 use Rattle.states.specs.declared.State.{State}
@@ -142,16 +144,32 @@ pub record OnStateAndBytes {R S : Type 0} (Post : Lfts 1 → Two State Lent → 
   pub lent : a.1.0.now ≡ bytes
   pub small : Bytes bytes
 
+-- what the calls below the exported ones say
+abbrev pub Judged : Type 0
+Judged = Result Accepted Refusal
+
+abbrev pub ChildSaid : Type 0
+ChildSaid = Result FoundChild Refusal
+
+abbrev pub NameSaid : Type 0
+NameSaid = Result FoundName Refusal
+
+abbrev pub Checked : Type 0
+Checked = Result Sound Refusal
+
+abbrev pub Made : Type 0
+Made = Result ℕ Refusal
+
 -- `read` of bytes said r
-abbrev pub Read : (bytes : List ℕ) → Judgement → Type 0
+abbrev pub Read : (bytes : List ℕ) → Judged → Type 0
 Read = OnBytes read.Post
 
 -- `child` of bytes for k said r
-abbrev pub ChildOf : (bytes : List ℕ) (k : ℕ) → FoundChild → Type 0
+abbrev pub ChildOf : (bytes : List ℕ) (k : ℕ) → ChildSaid → Type 0
 ChildOf = OnPart child.Post
 
 -- `name` of bytes for k said r
-abbrev pub NameOf : (bytes : List ℕ) (k : ℕ) → FoundName → Type 0
+abbrev pub NameOf : (bytes : List ℕ) (k : ℕ) → NameSaid → Type 0
 NameOf = OnPart name.Post
 
 -- `check` of a sheet said r

@@ -21,6 +21,7 @@ use Rattle.meaning.proofs.Laws.{encode-reading}
 use Rattle.reader.specs.Said.{said}
 use Rattle.answers.specs.declared.Answer.{Answer}
 use Rattle.answers.specs.Answers.{answered, refused}
+use Rattle.answers.specs.Calls.{read_answer}
 use Rattle.promises.specs.Told.{Makes}
 use Rattle.promises.specs.Card.{Case, reads, refuses, finds, fills, joins, Holds, All, card}
 use Rattle.promises.proofs.Calls.{BoardRead, BoardChild, BoardFill, BoardJoin}
@@ -43,7 +44,7 @@ Ran (joins first second w) = (before after : List ℕ) (r : Answer) → BoardJoi
 says_so : (c : Case) → Holds c → Ran c
 unfolding Holds Ran
 says_so (reads bytes s) h = λ r c. read-said c (ap said h) ∙ ap (λ (n : ℕ). answered 0 n (depth s)) (ap length (sym (encode-reading bytes s [] c.small h).0))
-says_so (refuses bytes number place) h = λ r c. read-said c (ap said h)
+says_so (refuses bytes number place) h = λ r c. c.allowed ∙ rw c.lent (ap read_answer h)
 says_so (finds bytes k place size) h = λ r c. child-said c h
 says_so (fills template sheet w) h = λ before after r c. fill-makes c h
 says_so (joins first second w) h = λ before after r c. join-makes c h

@@ -9,7 +9,7 @@
 --     board-read-numbers .. board-table-numbers     the number of a refusal is one that the document lists for the call
 -- Assumes nothing.
 use Prim.Native.Nat.{ℕ, ◌<◌, zero-le}
-use mathlib.Core.Path.{◌≡◌, refl, sym, ap₂, subst}
+use mathlib.Core.Path.{◌≡◌, refl, sym, subst}
 use mathlib.Core.List.{List, [], ◌∷◌, ◌++◌, map, Memᴰ as OneOf}
 use mathlib.Core.Logic.Iff
 use mathlib.Core.Logic.{◌↔◌}
@@ -30,29 +30,24 @@ use Rattle.meaning.proofs.Join.{join-rising}
 use Rattle.meaning.proofs.SheetBytes.{sheet-read}
 use Rattle.meaning.proofs.Bounds.{fill-small, join-small}
 use Rattle.meaning.proofs.TableAnswers.{write-small, table-small}
-use Rattle.buffers.specs.declared.Made.{Made}
-use Rattle.buffers.specs.declared.Made.TheVariants.{Written, Refused}
-use Rattle.reader.specs.declared.Judgement.{Judgement}
-use Rattle.reader.specs.declared.Judgement.TheVariants as judged
+use Rattle.std.specs.Prelude.{Result, Ok, Err}
+use Rattle.leaves.specs.declared.refusals.Refusal.{Refusal}
+use Rattle.leaves.proofs.Faults.{fault-some}
 use Rattle.parts.specs.declared.FoundChild.{FoundChild}
-use Rattle.parts.specs.declared.FoundChild.TheVariants as child
-use Rattle.parts.specs.declared.FoundName.{FoundName}
-use Rattle.parts.specs.declared.FoundName.TheVariants as name
-use Rattle.sheets.specs.declared.Checked.{Checked}
-use Rattle.sheets.specs.declared.Checked.TheVariants.{Sound, Broken}
+use Rattle.parts.specs.declared.FoundChild.TheVariants.{Part, Primitive}
 use Rattle.editor.specs.declared.Node.{Node}
 use Rattle.editor.specs.Records.{meant}
 use Rattle.answers.specs.declared.Answer.{Answer}
-use Rattle.answers.specs.Answers.{Fits, read_put, child_put, name_put, sheet_put, made_put}
-use Rattle.answers.proofs.Small.{Given, exported, exported-child, exported-name, exported-sheet, made-fits}
-use Rattle.board.proofs.Small.{records-fit}
-use Rattle.promises.specs.Order.{read_numbers, PartRefuses, FillRefuses, JoinRefuses, WriteRefuses, RecordsRefuses, TableRefuses, CheckRefused}
+use Rattle.answers.specs.Answers.{Fits, said_put, accepted_put, child_put, name_put, sound_put, written_put}
+use Rattle.answers.proofs.Small.{Given, exported, exported-child, exported-name, exported-sheet, exported-made}
+use Rattle.board.proofs.Small.{records-small}
+use Rattle.promises.specs.Order.{read_numbers, PartRefuses, FillRefuses, JoinRefuses, WriteRefuses, RecordsRefuses, TableRefuses, Refused}
 use Rattle.promises.specs.Told.{FrontOnly, Tells, Keeps}
-use Rattle.promises.proofs.Calls.{Lent, Buffer, Two, Three, Into, IntoOfTwo, BoardRead, BoardChild, BoardName, BoardSheet, BoardFill, BoardJoin, BoardWrite, BoardRecords, BoardTable}
+use Rattle.promises.proofs.Calls.{Made, Lent, Buffer, Two, Three, Into, IntoOfTwo, BoardRead, BoardChild, BoardName, BoardSheet, BoardFill, BoardJoin, BoardWrite, BoardRecords, BoardTable}
 use Rattle.promises.proofs.Once.{read-once, child-once, name-once, check-once, fill-once, join-once, write-once, records-once, table-once}
-use Rattle.promises.proofs.Refusing.{positive, read-refuses, read-numbers, child-refuses, name-refuses, part-numbers, check-refuses, check-numbers, fill-refuses, fill-numbers, fill-kept, fill-front, join-refuses, join-numbers, join_kept, join_front, write-refuses, write-numbers, write_kept, write-front, table-refuses, table-numbers, table_kept, table-front}
+use Rattle.promises.proofs.Refusing.{read-refuses, read-numbers, child-refuses, name-refuses, part-numbers, check-refuses, check-numbers, fill-refuses, fill-numbers, fill-kept, fill-front, join-refuses, join-numbers, join_kept, join_front, write-refuses, write-numbers, write_kept, write-front, table-refuses, table-numbers, table_kept, table-front}
 use Rattle.promises.proofs.Records.{records-refuses, records-numbers, records-kept, records-front}
-use Rattle.promises.proofs.Below.{Below, alike, read_below, child-below, name_below, sheet-below, fill-below, join-below, write-below, records-below, table_below, fill-some, join-some, write-some, records-some, table-some}
+use Rattle.promises.proofs.Below.{Below, alike, read_below, child-below, name_below, sheet-below, fill-below, join-below, write-below, records-below, table_below, made_put}
 
 -- a slice lent at some place, for some time
 abbrev pub lent_slice : {A : Type 0} → List A → Bor (List A)
@@ -72,7 +67,7 @@ abbrev some3 : Lfts 3
 some3 = ([], some2)
 
 -- What is given fits.
-given-fits : {a b : Answer} → Given a b → Fits b
+pub given-fits : {a b : Answer} → Given a b → Fits b
 given-fits g = subst Fits g.is g.fits
 
 -- There is a run, whatever is lent.
@@ -98,24 +93,24 @@ into-run : {Post : Lfts 2 → Two Lent Buffer → Answer → Two Lent Buffer →
 into-run p h = record { κs = some2; a = (_, (_, tt)); s = (_, (_, tt)); allowed = p; lent = refl; buffer_lent = refl; buffer-left = refl; small = h }
 
 pub board-fill-runs : (template sheet before : List ℕ) → Bytes template → Bytes sheet → (r : Answer) × (after : List ℕ) × BoardFill template sheet before r after × Fits r
-board-fill-runs template sheet before h k = (_, _, two_run (refl, refl) (h, k), made-fits (fill_answer template sheet (length before)) (fill-small _ _ _))
+board-fill-runs template sheet before h k = (_, _, two_run (refl, refl) (h, k), given-fits (exported-made (fill_answer template sheet (length before)) (fill-small _ _ _)))
 
 pub board-join-runs : (first second before : List ℕ) → Bytes first → Bytes second → (r : Answer) × (after : List ℕ) × BoardJoin first second before r after × Fits r
-board-join-runs first second before h k = (_, _, two_run (refl, refl) (h, k), made-fits (join_answer first second (length before)) (join-small _ _ _ h k))
+board-join-runs first second before h k = (_, _, two_run (refl, refl) (h, k), given-fits (exported-made (join_answer first second (length before)) (join-small _ _ _ h k)))
 
 pub board-write-runs : (table before : List ℕ) → Bytes table → (r : Answer) × (after : List ℕ) × BoardWrite table before r after × Fits r
-board-write-runs table before h = (_, _, into-run (refl, refl) h, made-fits (write_answer table (length before)) (write-small _ _))
+board-write-runs table before h = (_, _, into-run (refl, refl) h, given-fits (exported-made (write_answer table (length before)) (write-small _ _)))
 
 pub board-records-runs : (nodes : List Node) (rest before : List ℕ) → NodesFit (map meant nodes) → Bytes rest → (r : Answer) × (after : List ℕ) × BoardRecords nodes rest before r after × Fits r
 board-records-runs nodes rest before h k = (
   _,
   _,
   record { κs = some3; a = (lent_slice nodes, (lent_slice rest, (lent_buffer before, tt))); s = (lent_slice nodes, (lent_slice rest, (lent_buffer _, tt))); allowed = refl; nodes-lent = refl; rest-lent = refl; buffer_lent = refl; buffer-left = refl; small = (h, k) },
-  records-fit nodes rest before,
+  given-fits (exported-made _ (records-small nodes rest (length before))),
 )
 
 pub board-table-runs : (bytes before : List ℕ) → Bytes bytes → (r : Answer) × (after : List ℕ) × BoardTable bytes before r after × Fits r
-board-table-runs bytes before h = (_, _, into-run (refl, refl) h, made-fits (table_answer bytes (length before)) (table-small _ _ h))
+board-table-runs bytes before h = (_, _, into-run (refl, refl) h, given-fits (exported-made (table_answer bytes (length before)) (table-small _ _ h)))
 
 module _ {r r' : Answer} where
   -- One outcome, whatever the pointers: what was lent the same bytes says the same,
@@ -148,27 +143,15 @@ module _ {r r' : Answer} where
     pub board-table-once : {bytes : List ℕ} → BoardTable bytes before r after → BoardTable bytes before r' after' → (r ≡ r') × (after ≡ after')
     board-table-once c d = let e = table-once (table_below c).run (table_below d).run in (alike (table_below c) (table_below d) e.0, e.1)
 
--- The four numbers tell a refusal of each enum, where no refusal has the number 0, and of every other case they have it.
-judged-told : (m : Judgement) → ((n p : ℕ) → m ≡ judged.Refused n p → 0 < n) → Tells (read_put m) (λ n p. m ≡ judged.Refused n p)
-judged-told (judged.Accepted l d) k = record { exactly = λ n p. (λ h. absurd (omega arith), λ h. (k n p h, cc, cc)); bare = λ h. absurd (omega arith) }
-judged-told (judged.Refused m q) k = record { exactly = λ n p. (λ h. ap₂ judged.Refused h.1 h.2, λ h. (k n p h, cc, cc)); bare = λ h. refl }
+-- The four numbers tell a refusal, and of every other case they have the number 0.
+told : {A : Type 0} (put : A → Answer) → ((a : A) → (put a).number ≡ 0) → (m : Result A Refusal) → Tells (said_put put m) (Refused m)
+told put z (Ok a) = let e = z a in record { exactly = λ n p. (λ h. absurd (omega arith), λ h. absurd h); bare = λ h. absurd (omega arith) }
+told put z (Err r) = let s = fault-some r.fault in record { exactly = λ n p. (λ h. (h.1, h.2), λ h. (omega (arith, h.0), h.0, h.1)); bare = λ h. refl }
 
-child-told : (m : FoundChild) → ((n p : ℕ) → m ≡ child.Refused n p → 0 < n) → Tells (child_put m) (λ n p. m ≡ child.Refused n p)
-child-told (child.Part q l) k = record { exactly = λ n p. (λ h. absurd (omega arith), λ h. (k n p h, cc, cc)); bare = λ h. absurd (omega arith) }
-child-told (child.Primitive q) k = record { exactly = λ n p. (λ h. absurd (omega arith), λ h. (k n p h, cc, cc)); bare = λ h. absurd (omega arith) }
-child-told (child.Refused m q) k = record { exactly = λ n p. (λ h. ap₂ child.Refused h.1 h.2, λ h. (k n p h, cc, cc)); bare = λ h. refl }
-
-name-told : (m : FoundName) → ((n p : ℕ) → m ≡ name.Refused n p → 0 < n) → Tells (name_put m) (λ n p. m ≡ name.Refused n p)
-name-told (name.Text q l) k = record { exactly = λ n p. (λ h. absurd (omega arith), λ h. (k n p h, cc, cc)); bare = λ h. absurd (omega arith) }
-name-told (name.Refused m q) k = record { exactly = λ n p. (λ h. ap₂ name.Refused h.1 h.2, λ h. (k n p h, cc, cc)); bare = λ h. refl }
-
-sheet-told : (m : Checked) → Tells (sheet_put m) (CheckRefused m)
-sheet-told (Sound e l) = record { exactly = λ n p. (λ h. absurd (omega arith), λ h. absurd h); bare = λ h. absurd (omega arith) }
-sheet-told (Broken q) = record { exactly = λ n p. (λ h. (sym h.1, sym h.2), λ h. (omega arith, sym h.0, sym h.1)); bare = λ h. refl }
-
-made_told : (m : Made) → ((n p : ℕ) → m ≡ Refused n p → 0 < n) → Tells (made_put m) (λ n p. m ≡ Refused n p)
-made_told (Written l) k = record { exactly = λ n p. (λ h. absurd (omega arith), λ h. (k n p h, cc, cc)); bare = λ h. absurd (omega arith) }
-made_told (Refused m q) k = record { exactly = λ n p. (λ h. ap₂ Refused h.1 h.2, λ h. (k n p h, cc, cc)); bare = λ h. refl }
+-- A child that was found has the number 0, with bytes and without.
+found-told : (c : FoundChild) → (child_put c).number ≡ 0
+found-told (Part place length) = refl
+found-told (Primitive number) = refl
 
 -- By the same clauses, told of one answer and of four numbers that are it.
 tells : {r a : Answer} {Q R : ℕ → ℕ → Type 0} → r ≡ a → Tells a Q → ((n p : ℕ) → Q n p ↔ R n p) → Tells r R
@@ -179,53 +162,53 @@ module _ {r : Answer} where
   pub board-read-tells : {bytes : List ℕ} → BoardRead bytes r → Tells r (λ n p. reading bytes ≡ bad n p)
   board-read-tells {bytes} c =
       let b = read_below c in let o = read-refuses b.run in
-      tells b.is (judged-told b.m (λ n p e. positive (omega arith) (read-numbers bytes ((o n p).0 e)))) o
+      tells b.is (told accepted_put (λ a. refl) b.m) o
 
   -- `shiulbart_child`: 1 to 8, then 18.
   pub board-child-tells : {bytes : List ℕ} {k : ℕ} → BoardChild bytes k r → Tells r (PartRefuses children bytes k)
   board-child-tells c =
       let b = child-below c in let o = child-refuses b.run in
-      tells b.is (child-told b.m (λ n p e. positive (omega arith) (part-numbers ((o n p).0 e)))) o
+      tells b.is (told child_put found-told b.m) o
 
   -- `shiulbart_name`: the same.
   pub board-name-tells : {bytes : List ℕ} {k : ℕ} → BoardName bytes k r → Tells r (PartRefuses names bytes k)
   board-name-tells c =
       let b = name_below c in let o = name-refuses b.run in
-      tells b.is (name-told b.m (λ n p e. positive (omega arith) (part-numbers ((o n p).0 e)))) o
+      tells b.is (told name_put (λ a. refl) b.m) o
 
   -- `shiulbart_sheet`: 13.
   pub board-sheet-tells : {sheet : List ℕ} → BoardSheet sheet r → Tells r (λ n p. read_sheet sheet_broken sheet ≡ bad n p)
-  board-sheet-tells c = let b = sheet-below c in tells b.is (sheet-told b.m) (check-refuses b.run)
+  board-sheet-tells c = let b = sheet-below c in tells b.is (told sound_put (λ a. refl) b.m) (check-refuses b.run)
 
   -- Of a call that writes: when it refuses, and what it leaves of the lent buffer.
-  made_tells : {Run : Made → Type 0} {before after : List ℕ} {R : ℕ → ℕ → Type 0} (b : Below made_put Run r) → ((n p : ℕ) → (b.m ≡ Refused n p) ↔ R n p) → ((n p : ℕ) → Run (Refused n p) → 0 < n)
-      → ((n p : ℕ) → Run (Refused n p) → after ≡ before) → ((n : ℕ) → Run (Written n) → FrontOnly n before after) → Tells r R × Keeps r before after
-  made_tells {Run} {before} {after} b o k kept front = (tells b.is (made_told b.m (λ n p e. k n p (subst Run e b.run))) o, keeps b.m b.run b.is)
+  made_tells : {Run : Made → Type 0} {before after : List ℕ} {R : ℕ → ℕ → Type 0} (b : Below made_put Run r) → ((n p : ℕ) → Refused b.m n p ↔ R n p)
+      → ((e : Refusal) → Run (Err e) → after ≡ before) → ((n : ℕ) → Run (Ok n) → FrontOnly n before after) → Tells r R × Keeps r before after
+  made_tells {Run} {before} {after} b o kept front = (tells b.is (told written_put (λ n. refl) b.m) o, keeps b.m b.run b.is)
     where
       keeps : (m : Made) → Run m → r ≡ made_put m → Keeps r before after
-      keeps (Written n) run e = rw e (λ l. absurd (omega arith), front n run)
-      keeps (Refused n p) run e = rw (e, kept n p run) (λ _. refl, (zero-le, refl, refl))
+      keeps (Ok n) run e = rw e (λ l. absurd (omega arith), front n run)
+      keeps (Err e') run e = rw (e, kept e' run) (λ _. refl, (zero-le, refl, refl))
 
   module _ {before after : List ℕ} where
     -- `shiulbart_fill`: 1 to 8, 13, 15, 16, 12.
     pub board-fill-tells : {template sheet : List ℕ} → BoardFill template sheet before r after → Tells r (FillRefuses template sheet (length before)) × Keeps r before after
-    board-fill-tells c = let b = fill-below c in made_tells b (fill-refuses b.run) fill-some (λ n p. fill-kept) (λ n. fill-front)
+    board-fill-tells c = let b = fill-below c in made_tells b (fill-refuses b.run) (λ e. fill-kept) (λ n. fill-front)
 
     -- `shiulbart_join`: 13, 14, 17, 15 and 16, 17, 12.
     pub board-join-tells : {first second : List ℕ} → BoardJoin first second before r after → Tells r (JoinRefuses first second (length before)) × Keeps r before after
-    board-join-tells c = let b = join-below c in made_tells b (join-refuses b.run) join-some (λ n p. join_kept) (λ n. join_front)
+    board-join-tells c = let b = join-below c in made_tells b (join-refuses b.run) (λ e. join_kept) (λ n. join_front)
 
     -- `shiulbart_write`: 9 to 11, 15, 16, 12.
     pub board-write-tells : {table : List ℕ} → BoardWrite table before r after → Tells r (WriteRefuses table (length before)) × Keeps r before after
-    board-write-tells c = let b = write-below c in made_tells b (write-refuses b.run) write-some (λ n p. write_kept) (λ n. write-front)
+    board-write-tells c = let b = write-below c in made_tells b (write-refuses b.run) (λ e. write_kept) (λ n. write-front)
 
     -- `shiulbart_write_records`: the same.
     pub board-records-tells : {nodes : List Node} {rest : List ℕ} → BoardRecords nodes rest before r after → Tells r (RecordsRefuses nodes rest (length before)) × Keeps r before after
-    board-records-tells c = let b = records-below c in made_tells b (records-refuses b.run) records-some (λ n p. records-kept) (λ n. records-front)
+    board-records-tells c = let b = records-below c in made_tells b (records-refuses b.run) (λ e. records-kept) (λ n. records-front)
 
     -- `shiulbart_table`: 1 to 8, 12.
     pub board-table-tells : {bytes : List ℕ} → BoardTable bytes before r after → Tells r (TableRefuses bytes (length before)) × Keeps r before after
-    board-table-tells c = let b = table_below c in made_tells b (table-refuses b.run) table-some (λ n p. table_kept) (λ n. table-front)
+    board-table-tells c = let b = table_below c in made_tells b (table-refuses b.run) (λ e. table_kept) (λ n. table-front)
 
 -- The clauses of a joining go by the entries of the joined sheet in order: they stand by rising number.
 pub joined-rises : (first second : List ℕ) {σ τ : Sheet} {v w : List ℕ} → Bytes first → Bytes second → read_sheet sheet_broken first ≡ got σ v → read_sheet second_broken second ≡ got τ w → Rising (join σ τ)

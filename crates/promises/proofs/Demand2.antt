@@ -37,7 +37,7 @@ use Rattle.meaning.proofs.TableAnswers as Meant
 use Rattle.editor.specs.declared.Node.{Node}
 use Rattle.editor.specs.Records.{same_table}
 use Rattle.answers.specs.declared.Answer.{Answer}
-use Rattle.answers.specs.Answers.{answered, read_put, child_put, name_put, sheet_put}
+use Rattle.answers.specs.Answers.{answered, said_put, accepted_put, child_put, name_put, sound_put}
 use Rattle.promises.specs.Told.{IsShape, IsSheet, IsTable, Found, Answered, wrote, Makes, MakesExactly, HasBytes, HasNone, InPayload}
 use Rattle.promises.proofs.Calls.{BoardRead, BoardChild, BoardName, BoardSheet, BoardFill, BoardJoin, BoardWrite, BoardRecords, BoardTable}
 use Rattle.promises.proofs.Front.{fill-made, join-made, write-made, table-made, filled_in, joined_in, wrote-in, tabled-in}
@@ -51,14 +51,14 @@ module _ {r : Answer} where
   pub board-read-exact : {bytes : List ℕ} → BoardRead bytes r → (l d : ℕ) → (r ≡ answered 0 l d) ↔ ((s : Shape) × IsShape bytes s × (l ≡ length bytes) × (d ≡ depth s))
   board-read-exact c l d = (
     λ h. let e = (read-exact (read-accepted (numbered h) c) r.length r.extra).0 refl in (e.0, e.1, sym (sized h) ∙ e.2, sym (more h) ∙ e.3),
-    λ h. let b = read_below c in b.is ∙ ap read_put ((read-exact b.run l d).1 h),
+    λ h. let b = read_below c in b.is ∙ ap (said_put accepted_put) ((read-exact b.run l d).1 h),
   )
 
   -- `shiulbart_sheet` accepts exactly the bytes of the sheets within the limits, and says how many bytes of encodings and entries they have.
   pub board-sheet-exact : {sheet : List ℕ} → BoardSheet sheet r → (l e : ℕ) → (r ≡ answered 0 l e) ↔ ((σ : Sheet) × IsSheet sheet σ × (l ≡ length (encodings σ)) × (e ≡ length σ))
   board-sheet-exact c l e = (
     λ h. let q = (check-exact (sheet-sound (numbered h) c) r.extra r.length).0 refl in (q.0, q.1, sym (sized h) ∙ q.3, sym (more h) ∙ q.2),
-    λ h. let b = sheet-below c in b.is ∙ ap sheet_put ((check-exact b.run e l).1 (h.0, h.1, h.3, h.2)),
+    λ h. let b = sheet-below c in b.is ∙ ap (said_put sound_put) ((check-exact b.run e l).1 (h.0, h.1, h.3, h.2)),
   )
 
 module _ {b₁ a₁ b₂ a₂ : List ℕ} {r₁ r₂ : Answer} where
@@ -126,21 +126,21 @@ module _ {bytes : List ℕ} {k : ℕ} {r : Answer} where
   pub board-child-exact : BoardChild bytes k r → (place size : ℕ) → (r ≡ answered place size 0) ↔ Found bytes (λ s. (k < length (children s)) × (child_of s k ≡ part place size))
   board-child-exact c place size = (
     λ h. rw (placed h, sized h) at ((child-exact (child-part (numbered h) c (more h)) (part r.place r.length)).0 refl),
-    λ f. let b = child-below c in b.is ∙ ap child_put ((child-exact b.run (part place size)).1 f),
+    λ f. let b = child-below c in b.is ∙ ap (said_put child_put) ((child-exact b.run (part place size)).1 f),
   )
 
   -- or, where the parent is packed, a primitive's number.
   pub board-packed-exact : BoardChild bytes k r → (number : ℕ) → (r ≡ answered number 0 1) ↔ Found bytes (λ s. (k < length (children s)) × (child_of s k ≡ packed_prim number))
   board-packed-exact c number = (
     λ h. rw (placed h) at ((child-exact (child-packed (numbered h) c (more h)) (packed_prim r.place)).0 refl),
-    λ f. let b = child-below c in b.is ∙ ap child_put ((child-exact b.run (packed_prim number)).1 f),
+    λ f. let b = child-below c in b.is ∙ ap (said_put child_put) ((child-exact b.run (packed_prim number)).1 f),
   )
 
   -- What is said of a name is exactly where name k of the shape is, and how long.
   pub board-name-exact : BoardName bytes k r → (place size : ℕ) → (r ≡ answered place size 0) ↔ Found bytes (λ s. (k < length (names s)) × (name_place s k ≡ place) × (length (name_text s k) ≡ size))
   board-name-exact c place size = (
     λ h. rw (placed h, sized h) at ((name-exact (name-text (numbered h) c) r.place r.length).0 refl),
-    λ f. let b = name_below c in b.is ∙ ap name_put ((name-exact b.run place size).1 f),
+    λ f. let b = name_below c in b.is ∙ ap (said_put name_put) ((name-exact b.run place size).1 f),
   )
 
   -- A child with bytes stands inside the parent's payload, and is the encoding of the parent's child k, which is within the limits.

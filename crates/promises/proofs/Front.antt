@@ -1,5 +1,5 @@
 -- What a run that writes leaves in the lent buffer.
---     front-is        after `Written n` the answer is the first n bytes of the buffer, and there are n
+--     front-is        after `Ok n` the answer is the first n bytes of the buffer, and there are n
 --     front-holds     where the answer is w, the run says so, and w is the front of the buffer
 --     all-kept        where the answer is a refusal, the run says its number and place, and the buffer is as it was
 --     fill-front-is, join-front-is, write-front-is, table-front-is     what a run that wrote n bytes answered
@@ -14,13 +14,13 @@ use lib.ListN.{length, take}
 use Rattle.meaning.specs.Answers.{Answer, answered, refused, in_room, fill_answer, join_answer, write_answer, table_answer}
 use Rattle.meaning.proofs.Answers.{buffer-front, buffer-kept, Filled, fill-answered, fill-room, Joined, join-answered, join-room}
 use Rattle.meaning.proofs.TableAnswers as Meant
-use Rattle.buffers.specs.declared.Made.{Made}
-use Rattle.buffers.specs.declared.Made.TheVariants.{Written, Refused}
-use Rattle.promises.proofs.Calls.{Fill, Join, Write, Tabled}
+use Rattle.std.specs.Prelude.{Ok, Err}
+use Rattle.leaves.specs.Faults.{refusal}
+use Rattle.promises.proofs.Calls.{Made, Fill, Join, Write, Tabled}
 use Rattle.promises.proofs.Says.{Says, MakesIn, fill-says, join-says, write-says, table-says}
 
--- After `Written n` the answer is the first n bytes of the buffer, and there are n.
-pub front-is : (a : Answer) (before : List ℕ) {n : ℕ} {after : List ℕ} → Says a before (Written n) after → (a ≡ answered (take n after)) × (length (take n after) ≡ n)
+-- After `Ok n` the answer is the first n bytes of the buffer, and there are n.
+pub front-is : (a : Answer) (before : List ℕ) {n : ℕ} {after : List ℕ} → Says a before (Ok n) after → (a ≡ answered (take n after)) × (length (take n after) ≡ n)
 front-is (answered w) before {n} {after} s = (ap answered (sym front), rw front (cc))
   where
     front : take n after ≡ w
@@ -28,38 +28,38 @@ front-is (answered w) before {n} {after} s = (ap answered (sym front), rw front 
 front-is (refused m p) before {n} {after} s = (cc, cc)
 
 -- Where the answer is w, the run says so, and w is the front of the buffer.
-pub front-holds : (a : Answer) (before w : List ℕ) {r : Made} {after : List ℕ} → Says a before r after → a ≡ answered w → (r ≡ Written (length w)) × (take (length w) after ≡ w)
+pub front-holds : (a : Answer) (before w : List ℕ) {r : Made} {after : List ℕ} → Says a before r after → a ≡ answered w → (r ≡ Ok (length w)) × (take (length w) after ≡ w)
 front-holds a before w s h = (s.0 ∙ rw h, rw (s.1, h) (buffer-front before w))
 
 -- Where the answer is a refusal, the run says its number and place, and the buffer is as it was.
-pub all-kept : (a : Answer) (before : List ℕ) (n p : ℕ) {r : Made} {after : List ℕ} → Says a before r after → a ≡ refused n p → (r ≡ Refused n p) × (after ≡ before)
+pub all-kept : (a : Answer) (before : List ℕ) (n p : ℕ) {r : Made} {after : List ℕ} → Says a before r after → a ≡ refused n p → (r ≡ Err (refusal n p)) × (after ≡ before)
 all-kept a before n p s h = (s.0 ∙ rw h, s.1 ∙ rw h (buffer-kept before n p))
 
 module _ {before after : List ℕ} {n : ℕ} where
   -- What a run that wrote n bytes answered.
-  pub fill-front-is : {template sheet : List ℕ} → Fill template sheet before (Written n) after → fill_answer template sheet (length before) ≡ answered (take n after)
+  pub fill-front-is : {template sheet : List ℕ} → Fill template sheet before (Ok n) after → fill_answer template sheet (length before) ≡ answered (take n after)
   fill-front-is c = (front-is _ before (fill-says c)).0
 
-  pub join-front-is : {first second : List ℕ} → Join first second before (Written n) after → join_answer first second (length before) ≡ answered (take n after)
+  pub join-front-is : {first second : List ℕ} → Join first second before (Ok n) after → join_answer first second (length before) ≡ answered (take n after)
   join-front-is c = (front-is _ before (join-says c)).0
 
-  pub write-front-is : {table : List ℕ} → Write table before (Written n) after → write_answer table (length before) ≡ answered (take n after)
+  pub write-front-is : {table : List ℕ} → Write table before (Ok n) after → write_answer table (length before) ≡ answered (take n after)
   write-front-is c = (front-is _ before (write-says c)).0
 
-  pub table-front-is : {bytes : List ℕ} → Tabled bytes before (Written n) after → table_answer bytes (length before) ≡ answered (take n after)
+  pub table-front-is : {bytes : List ℕ} → Tabled bytes before (Ok n) after → table_answer bytes (length before) ≡ answered (take n after)
   table-front-is c = (front-is _ before (table-says c)).0
 
   -- What that run was lent, and what it made.
-  pub fill-made : {template sheet : List ℕ} → Fill template sheet before (Written n) after → Filled template sheet (take n after)
+  pub fill-made : {template sheet : List ℕ} → Fill template sheet before (Ok n) after → Filled template sheet (take n after)
   fill-made {template} {sheet} c = fill-answered template sheet (length before) (take n after) c.small.0 c.small.1 (fill-front-is c)
 
-  pub join-made : {first second : List ℕ} → Join first second before (Written n) after → Joined first second (take n after)
+  pub join-made : {first second : List ℕ} → Join first second before (Ok n) after → Joined first second (take n after)
   join-made {first} {second} c = join-answered first second (length before) (take n after) c.small.0 c.small.1 (join-front-is c)
 
-  pub write-made : {table : List ℕ} → Write table before (Written n) after → Meant.Wrote table (take n after)
+  pub write-made : {table : List ℕ} → Write table before (Ok n) after → Meant.Wrote table (take n after)
   write-made {table} c = Meant.write-answered table (length before) (take n after) c.small (write-front-is c)
 
-  pub table-made : {bytes : List ℕ} → Tabled bytes before (Written n) after → Meant.Tabled bytes (take n after)
+  pub table-made : {bytes : List ℕ} → Tabled bytes before (Ok n) after → Meant.Tabled bytes (take n after)
   table-made {bytes} c = Meant.table-answered bytes (length before) (take n after) c.small (table-front-is c)
 
 -- What is made once is made in any room that there is for it, and else 12 has its length: what a fill makes,

@@ -5,13 +5,8 @@
 use Prim.Native.Nat.{ℕ}
 use mathlib.Core.Path.{◌≡◌, sym, ◌∙◌}
 use mathlib.Core.List.{List}
-use Rattle.buffers.specs.declared.Made.{Made}
-use Rattle.reader.specs.declared.Judgement.{Judgement}
-use Rattle.parts.specs.declared.FoundChild.{FoundChild}
-use Rattle.parts.specs.declared.FoundName.{FoundName}
-use Rattle.sheets.specs.declared.Checked.{Checked}
 use Rattle.editor.specs.declared.Node.{Node}
-use Rattle.promises.proofs.Calls.{Read, ChildOf, NameOf, Check, Fill, Join, Write, WriteRecords, Tabled}
+use Rattle.promises.proofs.Calls.{Judged, ChildSaid, NameSaid, Checked, Made, Read, ChildOf, NameOf, Check, Fill, Join, Write, WriteRecords, Tabled}
 use Rattle.promises.proofs.Says.{read-says, child-says, name-says, check-says, fill-says, join-says, write-says, table-says, records-says}
 
 -- What equals one thing twice is one.
@@ -22,13 +17,13 @@ agree p q = p ∙ sym q
 pub agree-both : {A B : Type 0} {x y z : A} {u v w : B} → (x ≡ z) × (u ≡ w) → (y ≡ z) × (v ≡ w) → (x ≡ y) × (u ≡ v)
 agree-both p q = (agree p.0 q.0, agree p.1 q.1)
 
-pub read-once : {bytes : List ℕ} {r r' : Judgement} → Read bytes r → Read bytes r' → r ≡ r'
+pub read-once : {bytes : List ℕ} {r r' : Judged} → Read bytes r → Read bytes r' → r ≡ r'
 read-once p q = agree (read-says p) (read-says q)
 
-pub child-once : {bytes : List ℕ} {k : ℕ} {r r' : FoundChild} → ChildOf bytes k r → ChildOf bytes k r' → r ≡ r'
+pub child-once : {bytes : List ℕ} {k : ℕ} {r r' : ChildSaid} → ChildOf bytes k r → ChildOf bytes k r' → r ≡ r'
 child-once p q = agree (child-says p) (child-says q)
 
-pub name-once : {bytes : List ℕ} {k : ℕ} {r r' : FoundName} → NameOf bytes k r → NameOf bytes k r' → r ≡ r'
+pub name-once : {bytes : List ℕ} {k : ℕ} {r r' : NameSaid} → NameOf bytes k r → NameOf bytes k r' → r ≡ r'
 name-once p q = agree (name-says p) (name-says q)
 
 pub check-once : {sheet : List ℕ} {r r' : Checked} → Check sheet r → Check sheet r' → r ≡ r'

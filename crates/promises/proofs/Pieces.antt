@@ -36,21 +36,24 @@ use Rattle.meaning.specs.Within.{Bytes}
 use Rattle.meaning.specs.Reading.{bad, reading}
 use Rattle.meaning.proofs.Rules.{rule}
 use Rattle.meaning.proofs.Window.{bytes-append}
-use Rattle.reader.specs.declared.Judgement.{Judgement}
+use Rattle.std.specs.Prelude.{Result}
+use Rattle.reader.specs.declared.Accepted.{Accepted}
+use Rattle.pieces.specs.declared.Faulty.{Faulty}
 use Rattle.states.specs.declared.State.{State}
 use Rattle.pieces.specs.Led.{closed_of, led_to}
 use Rattle.pieces.proofs.Led.{part-can, finish-can}
 use Rattle.answers.specs.declared.Answer.{Answer}
-use Rattle.answers.specs.Answers.{answered, Fits, read_put}
+use Rattle.answers.specs.Answers.{answered, Fits}
 use Rattle.board.specs.declared.PiecesEnd.{PiecesEnd}
 use Rattle.answers.specs.Calls.{read_answer}
 use Rattle.answers.proofs.Small.{exported}
+use Rattle.board.proofs.Small.{finish_put, finish-put}
 use Rattle.board.specs.contracts.shiulbart_pieces_start as start
 use Rattle.promises.specs.Order.{read_numbers}
 use Rattle.promises.specs.Told.{IsShape, Tells}
 use Rattle.promises.specs.Pieces.{max_state_bytes, joined, Fed, none, one, Reached, AnyCalls, no_more, a_part, a_finish}
 use Rattle.promises.proofs.Calls.{BoardRead, BoardPiecesStart, BoardPiecesPart, BoardPiecesFinish}
-use Rattle.promises.proofs.Demand1.{lent_slice, some1, board-read-runs, board-read-once, board-read-tells, board-read-numbers}
+use Rattle.promises.proofs.Demand1.{given-fits, lent_slice, some1, board-read-runs, board-read-once, board-read-tells, board-read-numbers}
 use Rattle.promises.proofs.Demand2.{board-read-exact}
 
 -- a start and the parts led to a state
@@ -179,12 +182,12 @@ all-fitted a f = rw (lt-ltb a.number 4294967296 f.0, lt-ltb a.place 4294967296 f
 pub board-pieces-finish-runs : (s : State) → (e : PiecesEnd) × BoardPiecesFinish s e × Fits e.answer
 board-pieces-finish-runs s = (
   end (closed_of s) (all_fitted a),
-  record { κs = tt; a = (s, tt); s = (s, tt); allowed = (refl, λ u b h. ap (λ (j : Judgement). all_fitted (read_put j)) ((finish-can s).1 u b h) ∙ all-fitted _ (exported u b).fits ∙ (exported u b).is); given = refl },
+  record { κs = tt; a = (s, tt); s = (s, tt); allowed = (refl, λ u b h. ap (λ (m : Result Accepted Faulty). all_fitted (finish_put m)) ((finish-can s).1 u b h) ∙ ap all_fitted (finish-put (reading u)) ∙ all-fitted _ (given-fits (exported u b))); given = refl },
   (fitted-fits a.number, fitted-fits a.place, fitted-fits a.length, fitted-fits a.extra),
 )
   where
     a : Answer
-    a = read_put (finish-can s).0
+    a = finish_put (finish-can s).0
 
 -- Every list of parts leads to a state.
 bytes-split : (s t : List ℕ) → Bytes (s ++ t) → Bytes s × Bytes t

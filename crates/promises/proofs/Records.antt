@@ -26,13 +26,14 @@ use Rattle.meaning.proofs.Window.{bytes-append}
 use Rattle.meaning.proofs.Answers.{not-answered}
 use Rattle.meaning.proofs.TableBytes.{nodes-small, counted-small}
 use Rattle.meaning.proofs.TableAnswers.{Wrote, write-answered, write-fits}
-use Rattle.buffers.specs.declared.Made.{Made}
-use Rattle.buffers.specs.declared.Made.TheVariants.{Written, Refused}
 use Rattle.editor.specs.declared.Node.{Node}
 use Rattle.editor.specs.Records.{meant, same_table, records_answer}
-use Rattle.promises.specs.Order.{RecordsRefuses, no_records, many_records, same_bad}
+use Rattle.std.specs.Prelude.{Ok, Err}
+use Rattle.leaves.specs.declared.refusals.Refusal.{Refusal}
+use Rattle.board.proofs.Small.{records-small}
+use Rattle.promises.specs.Order.{RecordsRefuses, no_records, many_records, same_bad, Refused}
 use Rattle.promises.specs.Told.{FrontOnly}
-use Rattle.promises.proofs.Calls.{Write, WriteRecords}
+use Rattle.promises.proofs.Calls.{Made, Write, WriteRecords}
 use Rattle.promises.proofs.Says.{write-says, records-says}
 use Rattle.promises.proofs.Once.{agree-both}
 use Rattle.promises.proofs.Ordered.{Ordered, exactly, write-order}
@@ -90,14 +91,14 @@ module _ {nodes : List Node} {rest before : List ℕ} where
   records-same p q some few = agree-both (rw (few-answer nodes rest (length before) some few) at (records-says p)) (write-says q)
 
   -- It refuses exactly by its clauses.
-  pub records-refuses : {r : Made} {after : List ℕ} → WriteRecords nodes rest before r after → (n p : ℕ) → (r ≡ Refused n p) ↔ RecordsRefuses nodes rest (length before) n p
-  records-refuses c = made-refuses (records-says c).0 (records-order nodes rest (length before))
+  pub records-refuses : {r : Made} {after : List ℕ} → WriteRecords nodes rest before r after → (n p : ℕ) → Refused r n p ↔ RecordsRefuses nodes rest (length before) n p
+  records-refuses c = made-refuses (records-says c).0 (records-small nodes rest (length before)) (records-order nodes rest (length before))
 
   -- After a refusal the lent buffer equals its entry; after an answer of n bytes only its first n differ.
-  pub records-kept : {n p : ℕ} {after : List ℕ} → WriteRecords nodes rest before (Refused n p) after → after ≡ before
+  pub records-kept : {e : Refusal} {after : List ℕ} → WriteRecords nodes rest before (Err e) after → after ≡ before
   records-kept c = made_kept _ (records-says c)
 
-  pub records-front : {n : ℕ} {after : List ℕ} → WriteRecords nodes rest before (Written n) after → FrontOnly n before after
+  pub records-front : {n : ℕ} {after : List ℕ} → WriteRecords nodes rest before (Ok n) after → FrontOnly n before after
   records-front c = made-front before _ (records-fits nodes rest (length before)) (records-says c)
 
 -- Its numbers are those of `write`: 9 to 11, 15, 16, 12.
@@ -117,7 +118,7 @@ pub record RecordsWrote (nodes : List Node) (rest w : List ℕ) : Type 0 where
   pub wrote : Wrote (same_table nodes rest) w
 
 -- `write_records` made what the records mean,
-pub records-made : {nodes : List Node} {rest before after : List ℕ} {n : ℕ} → WriteRecords nodes rest before (Written n) after → RecordsWrote nodes rest (take n after)
+pub records-made : {nodes : List Node} {rest before after : List ℕ} {n : ℕ} → WriteRecords nodes rest before (Ok n) after → RecordsWrote nodes rest (take n after)
 records-made {nodes} {rest} {before} {after} {n} c =
     by_count nodes rest (length before) (λ a. a ≡ answered (take n after) → RecordsWrote nodes rest (take n after)) (λ _ e. absurd (not-answered e)) (λ _ e. absurd (not-answered e))
     (λ some few h. record { some = some; few = few; wrote = write-answered (same_table nodes rest) (length before) _ (same-table-small nodes rest few c.small) h })

@@ -10,26 +10,21 @@ use Rattle.meaning.specs.Refusals.{sheet_broken}
 use Rattle.meaning.specs.Reading.{reading}
 use Rattle.meaning.specs.SheetReading.{read_sheet}
 use Rattle.meaning.specs.Answers.{Answer, in_room, fill_answer, join_answer, write_answer, table_answer, buffer_after}
-use Rattle.buffers.specs.declared.Made.{Made}
 use Rattle.buffers.specs.Said.{made_said}
-use Rattle.reader.specs.declared.Judgement.{Judgement}
 use Rattle.reader.specs.Said.{said}
-use Rattle.parts.specs.declared.FoundChild.{FoundChild}
-use Rattle.parts.specs.declared.FoundName.{FoundName}
 use Rattle.parts.specs.Said.{child_said, name_said}
-use Rattle.sheets.specs.declared.Checked.{Checked}
 use Rattle.sheets.specs.Said.{checked}
 use Rattle.editor.specs.declared.Node.{Node}
 use Rattle.editor.specs.Records.{records_answer, records_outcome}
-use Rattle.promises.proofs.Calls.{Read, ChildOf, NameOf, Check, Fill, Join, Write, WriteRecords, Tabled}
+use Rattle.promises.proofs.Calls.{Judged, ChildSaid, NameSaid, Checked, Made, Read, ChildOf, NameOf, Check, Fill, Join, Write, WriteRecords, Tabled}
 
-pub read-says : {bytes : List ℕ} {r : Judgement} → Read bytes r → r ≡ said (reading bytes)
+pub read-says : {bytes : List ℕ} {r : Judged} → Read bytes r → r ≡ said (reading bytes)
 read-says c = c.allowed ∙ rw c.lent
 
-pub child-says : {bytes : List ℕ} {k : ℕ} {r : FoundChild} → ChildOf bytes k r → r ≡ child_said (reading bytes) k
+pub child-says : {bytes : List ℕ} {k : ℕ} {r : ChildSaid} → ChildOf bytes k r → r ≡ child_said (reading bytes) k
 child-says c = c.allowed ∙ rw (c.lent, c.asked)
 
-pub name-says : {bytes : List ℕ} {k : ℕ} {r : FoundName} → NameOf bytes k r → r ≡ name_said (reading bytes) k
+pub name-says : {bytes : List ℕ} {k : ℕ} {r : NameSaid} → NameOf bytes k r → r ≡ name_said (reading bytes) k
 name-says c = c.allowed ∙ rw (c.lent, c.asked)
 
 pub check-says : {sheet : List ℕ} {r : Checked} → Check sheet r → r ≡ checked (read_sheet sheet_broken sheet)

@@ -40,13 +40,12 @@ use Rattle.meaning.specs.Answers as Meant
 use Rattle.meaning.specs.Answers.{onto, in_room, made, all_made, made_sheet, fill_answer, join_answer, write_answer, table_answer}
 use Rattle.editor.specs.declared.Node.{Node}
 use Rattle.editor.specs.Records.{records_answer}
-use Rattle.reader.specs.declared.Judgement.TheVariants as read
-use Rattle.reader.specs.Said.{said}
+use Rattle.std.specs.Prelude.{Ok, Err}
+use Rattle.leaves.specs.Faults.{refusal}
+use Rattle.reader.specs.Said.{said, accepted}
 use Rattle.parts.specs.declared.FoundChild.TheVariants as child
-use Rattle.parts.specs.declared.FoundName.TheVariants as name
-use Rattle.parts.specs.Said.{child_said, name_said}
-use Rattle.sheets.specs.declared.Checked.TheVariants.{Sound}
-use Rattle.sheets.specs.Said.{checked}
+use Rattle.parts.specs.Said.{child_said, name_of, name_said}
+use Rattle.sheets.specs.Said.{checked, sound}
 use Rattle.states.specs.declared.State.{State}
 use Rattle.answers.specs.declared.Answer.{Answer}
 use Rattle.answers.specs.Answers.{answered, refused}
@@ -106,17 +105,17 @@ Always answer w = (room : ℕ) → answer room ≡ in_room room w
 
 -- what the meaning says of the examples
 record Examples : Type 0 where
-  none_said : said (reading []) ≡ read.Refused cut_short 0
-  int-said : said (reading an_int) ≡ read.Accepted 1 1
-  record-said : said (reading a_record) ≡ read.Accepted 10 3
-  first-child-said : child_said (reading a_record) 0 ≡ child.Part 6 1
-  child-said : child_said (reading a_record) 1 ≡ child.Part 9 1
-  no-child-said : child_said (reading a_record) 2 ≡ child.Refused no_such_part 2
-  first-name-said : name_said (reading a_record) 0 ≡ name.Text 5 1
-  name-said : name_said (reading a_record) 1 ≡ name.Text 8 1
-  no-name-said : name_said (reading a_record) 2 ≡ name.Refused no_such_part 2
-  sheet-said : checked (read_sheet sheet_broken zero_as_int) ≡ Sound 1 1
-  empty-said : checked (read_sheet sheet_broken empty_sheet) ≡ Sound 0 0
+  none_said : said (reading []) ≡ Err (refusal cut_short 0)
+  int-said : said (reading an_int) ≡ Ok (accepted 1 1)
+  record-said : said (reading a_record) ≡ Ok (accepted 10 3)
+  first-child-said : child_said (reading a_record) 0 ≡ Ok (child.Part 6 1)
+  child-said : child_said (reading a_record) 1 ≡ Ok (child.Part 9 1)
+  no-child-said : child_said (reading a_record) 2 ≡ Err (refusal no_such_part 2)
+  first-name-said : name_said (reading a_record) 0 ≡ Ok (name_of 5 1)
+  name-said : name_said (reading a_record) 1 ≡ Ok (name_of 8 1)
+  no-name-said : name_said (reading a_record) 2 ≡ Err (refusal no_such_part 2)
+  sheet-said : checked (read_sheet sheet_broken zero_as_int) ≡ Ok (sound 1 1)
+  empty-said : checked (read_sheet sheet_broken empty_sheet) ≡ Ok (sound 0 0)
   array_made : Always (fill_answer blank_array zero_as_int) (0x60 ∷ [])
   map-made : Always (fill_answer blank_map zero_as_int) (0x41 ∷ 0x02 ∷ 0x00 ∷ 0x20 ∷ 0x01 ∷ [])
   map-finished : Always (fill_answer (0x41 ∷ 0x02 ∷ 0x00 ∷ 0x20 ∷ 0x01 ∷ []) one_as_int) (0x65 ∷ [])

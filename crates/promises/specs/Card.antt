@@ -1,5 +1,5 @@
 -- 01-scope.md, "Bytes on the bench card (hex)": M1 to M14, and what each says. To be believed.
-use Rattle.std.specs.Prelude.{ℕ, ◌≡◌, List, [], ◌∷◌}
+use Rattle.std.specs.Prelude.{ℕ, ◌≡◌, List, [], ◌∷◌, Ok}
 use Rattle.meaning.specs.Shape.{int, bool, str, prim, blank, array_of, map_of, record_of, function_of, no_fields, field, no_parameters, Shape}
 use Rattle.meaning.specs.Reading.{got, bad, reading}
 use Rattle.meaning.specs.Numbered.{Numbered}
@@ -21,7 +21,7 @@ pub data Case : Type 0 where
 unfoldable pub Holds : Case → Type 0
 Holds (reads bytes s) = reading bytes ≡ got s []
 Holds (refuses bytes number place) = reading bytes ≡ bad number place
-Holds (finds bytes k place size) = child_said (reading bytes) k ≡ Part place size
+Holds (finds bytes k place size) = child_said (reading bytes) k ≡ Ok (Part place size)
 Holds (fills template sheet w) = (room : ℕ) → fill_answer template sheet room ≡ in_room room w
 Holds (joins first second w) = (room : ℕ) → join_answer first second room ≡ in_room room w
 

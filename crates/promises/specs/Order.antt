@@ -1,6 +1,6 @@
 -- 01-scope.md: when each public call refuses, with which number n and at which place p. One constructor a clause, in the document's order; each says
 -- that nothing before it refuses. Reading itself (1 to 8), a sheet (13, 14) and a table (9 to 11) have theirs in the meaning. To be believed.
-use Rattle.std.specs.Prelude.{ℕ, ◌≤◌, ◌<◌, ◌≡◌, List, [], ◌∷◌, ◌++◌, length}
+use Rattle.std.specs.Prelude.{ℕ, ◌≤◌, ◌<◌, ◌≡◌, List, [], ◌∷◌, ◌++◌, length, Result, Ok, Err}
 use Rattle.meaning.specs.Limits.{max_bytes, max_levels, max_entries, max_encodings, max_nodes}
 use Rattle.meaning.specs.Refusals.{cut_short, not_assigned, size_wrong, unfinished, not_utf8, long_form, too_deep, input_too_long, section_broken, buffer_short, sheet_broken, second_broken, made_too_deep, made_too_long, joined_too_large, no_such_part}
 use Rattle.meaning.specs.Shape.{Shape, depth}
@@ -11,10 +11,10 @@ use Rattle.meaning.specs.Sheet.{Sheet, fill, join, encodings, sheet_bytes}
 use Rattle.meaning.specs.SheetReading.{read_sheet}
 use Rattle.meaning.specs.Table.{Table, table_bytes, table_shape, table_of}
 use Rattle.meaning.specs.TableReading.{read_table}
+use Rattle.leaves.specs.Faults.{number_of}
+use Rattle.leaves.specs.declared.refusals.Refusal.{Refusal}
 use Rattle.editor.specs.declared.Node.{Node}
 use Rattle.editor.specs.Records.{same_table}
-use Rattle.sheets.specs.declared.Checked.{Checked}
-use Rattle.sheets.specs.declared.Checked.TheVariants.{Sound, Broken}
 
 -- 1 to 8
 abbrev pub read_numbers : List ℕ
@@ -96,7 +96,7 @@ pub data TableRefuses (bytes : List ℕ) (room : ℕ) : ℕ → ℕ → Type 0 w
   -- "then 12", at "the length needed"
   table_no_room : {s : Shape} {v : List ℕ} → reading bytes ≡ got s v → room < length (table_bytes (table_of s)) → TableRefuses bytes room buffer_short (length (table_bytes (table_of s)))
 
--- `check` answers a place alone: with this paper's number its case `Broken` is the refusal 13, and `Sound` is none
-abbrev pub CheckRefused : Checked → ℕ → ℕ → Type 0
-CheckRefused (Sound entries bytes) n p = ⊥
-CheckRefused (Broken place) n p = (n ≡ sheet_broken) × (p ≡ place)
+-- what a call below says is a refusal with the number n at the place p
+abbrev pub Refused : {A : Type 0} → Result A Refusal → ℕ → ℕ → Type 0
+Refused (Ok a) n p = ⊥
+Refused (Err r) n p = (number_of r.fault ≡ n) × (r.place ≡ p)

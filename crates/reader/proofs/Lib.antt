@@ -1,10 +1,10 @@
-pub mod Folding
-pub mod Told
-pub mod Lists
 pub mod Ends
 pub mod Firsts
+pub mod Folding
+pub mod Fronts
+pub mod Lists
 pub mod Payloads
 pub mod Shapes
-pub mod Whole
 pub mod Steps
-pub mod Inside
+pub mod Told
+pub mod Whole

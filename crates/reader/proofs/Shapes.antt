@@ -21,6 +21,9 @@ use Rattle.meaning.proofs.Window.{window-none, window-some, window-length, windo
 use Rattle.leaves.proofs.Numbers.{leb-told}
 use Rattle.payloads.specs.declared.first.Kind.{Kind}
 use Rattle.payloads.specs.declared.first.Kind.TheVariants.{Array, Map, Record, Function, Symbol, Variable}
+use Rattle.std.specs.Prelude.{Result}
+use Rattle.leaves.specs.Faults.{number_of}
+use Rattle.leaves.specs.declared.refusals.Refusal.{Refusal}
 use Rattle.payloads.specs.declared.Opening.{Opening}
 use Rattle.payloads.specs.First.{kind_said}
 use Rattle.payloads.specs.Payload.{list_of, counted_at, counted_by, opening_at, short_form_of, primitive_at, small_at}
@@ -48,11 +51,11 @@ module _ (s : List ℕ)
     {X A : Type 0} (F : Fold X A) (inner : Walker X) (child : ℕ → List ℕ → Reading (Tree shape))
     (agree : (e at : ℕ) → at ≤ e → e ≤ length s → Told s e (Seen F s e at) (inner s e at) (child e (slice at e s))) where
   -- after a payload's list is opened
-  abbrev opened : Kind → ℕ → Opening → Out X
+  abbrev opened : Kind → ℕ → Result Opening Refusal → Out X
   opened kind at o = after_opening o λ stop from count. after (walk_items F inner kind count s stop from F.start) (closing F s at stop kind)
 
   module _ (e at stop : ℕ) (h : at + 3 ≤ stop) (i : stop ≤ e) (k : e ≤ length s) (np : primitive_at s e at ≡ false) where
-    abbrev R : Kind → Opening → Reading (Tree shape) → Type 0
+    abbrev R : Kind → Result Opening Refusal → Reading (Tree shape) → Type 0
     R kind o r = Told s e (Seen F s e at) (opened kind at o) (finish at (slice stop e s) r)
 
     abbrev x : ℕ
@@ -85,12 +88,12 @@ module _ (s : List ℕ)
     unfolding list_of read_payload counted_at counted_by finish
     payload-told Meant.array = closing-told F s e at stop Array _ _ i k np (array-held s F inner child agree at stop h (omega arith))
     payload-told Meant.map = closing-told F s e at stop Map _ _ i k np (map-held s F inner child agree at stop h (omega arith))
-    payload-told Meant.rec = after-leb (R Record) (counted_by stop (at + 3) 0) _ (leb-told s stop (at + 3) h (omega arith))
-        (λ v n l m. rw add-zero (closing-told F s e at stop Record _ _ i k np (record-held s F inner child agree at stop n v m (omega arith)))) (λ j. refused j (at + 3))
-    payload-told Meant.function = after-leb (R Function) (counted_by stop (at + 3) 1) _ (leb-told s stop (at + 3) h (omega arith))
-        (λ v n l m. closing-told F s e at stop Function _ _ i k np (function-held s F inner child agree at stop n v m (omega arith))) (λ j. refused j (at + 3))
-    payload-told Meant.symbol = after-leb (R Symbol) (counted_by stop (at + 3) 0) _ (leb-told s stop (at + 3) h (omega arith))
-        (λ v n l m. rw add-zero (closing-told F s e at stop Symbol _ _ i k np (symbol-held s F inner child agree at stop n v m (omega arith)))) (λ j. refused j (at + 3))
+    payload-told Meant.rec = after-leb (R Record) (counted_by stop 0) _ (leb-told s stop (at + 3) h (omega arith))
+        (λ v n l m. rw add-zero (closing-told F s e at stop Record _ _ i k np (record-held s F inner child agree at stop n v m (omega arith)))) (λ f. refused (number_of f) (at + 3))
+    payload-told Meant.function = after-leb (R Function) (counted_by stop 1) _ (leb-told s stop (at + 3) h (omega arith))
+        (λ v n l m. closing-told F s e at stop Function _ _ i k np (function-held s F inner child agree at stop n v m (omega arith))) (λ f. refused (number_of f) (at + 3))
+    payload-told Meant.symbol = after-leb (R Symbol) (counted_by stop 0) _ (leb-told s stop (at + 3) h (omega arith))
+        (λ v n l m. rw add-zero (closing-told F s e at stop Symbol _ _ i k np (symbol-held s F inner child agree at stop n v m (omega arith)))) (λ f. refused (number_of f) (at + 3))
     payload-told Meant.variable = blank-told
 
   -- the size, two bytes, and the payload
@@ -99,7 +102,7 @@ module _ (s : List ℕ)
   unfolding opening_at read_long
   long-told e at kind h k np = go (leb e (at + 1)) (leb e (at + 1 + 1)) refl refl
     where
-      R' : Opening → Reading (Tree shape) → Type 0
+      R' : Result Opening Refusal → Reading (Tree shape) → Type 0
       R' o r = Told s e (Seen F s e at) (opened (kind_said kind) at o) r
 
       go : (t u : Bool) → leb e (at + 1) ≡ t → leb e (at + 1 + 1) ≡ u → R' (opening_at s e at (kind_said kind)) (read_long child at kind e (slice (at + 1) e s))

@@ -23,9 +23,11 @@ use Rattle.payloads.specs.First.{first_said}
 use Rattle.payloads.specs.declared.first.Kind.{Kind}
 use Rattle.payloads.specs.declared.first.Kind.TheVariants.{Array, Map, Record, Function, Symbol, Variable}
 use Rattle.payloads.specs.declared.first.First.TheVariants.{Long}
-use Rattle.payloads.specs.declared.Text.TheVariants.{Whole, Bad}
-use Rattle.payloads.specs.Payload.{label_at, named, shaped, opening_at}
-use Rattle.reader.specs.Walk.{came, stopped, Fold, Walker, after_opening, after, closing, walk_items, by_first, shape_with, walk_shape, made_of, depths}
+use Rattle.std.specs.Prelude.{Ok, Err}
+use Rattle.leaves.specs.declared.refusals.Refusal.{Refusal}
+use Rattle.payloads.specs.declared.Text.{Text}
+use Rattle.payloads.specs.Payload.{text_of, label_at, named, shaped, opening_at}
+use Rattle.reader.specs.Walk.{came, stopped, stopped_by, Fold, Walker, after_opening, after, closing, walk_items, by_first, shape_with, walk_shape, made_of, depths}
 
 module _ {X A : Type 0} (F : Fold X A) where
   pub below : ℕ → Walker X
@@ -48,28 +50,28 @@ module _ {X A : Type 0} (F : Fold X A) where
 
 -- one item of those that are due
 module _ {X A : Type 0} (F : Fold X A) (inner : Walker X) (kind : Kind) (s : List ℕ) (end at : ℕ) (a : A) where
-  pub items-bad : {number place : ℕ} (due : ℕ) → 0 < due → label_at s end at kind ≡ Bad number place
-      → walk_items F inner kind due s end at a ≡ stopped number place
+  pub items-bad : {r : Refusal} (due : ℕ) → 0 < due → label_at s end at kind ≡ Err r
+      → walk_items F inner kind due s end at a ≡ stopped_by r
   unfolding walk_items
   items-bad zero h e = absurd (omega arith)
   items-bad (suc due) h e = rw e
 
-  pub items_refused : {start next number place : ℕ} (due : ℕ) → 0 < due → label_at s end at kind ≡ Whole start next
-      → shaped kind ≡ true → inner s end next ≡ stopped number place
-      → walk_items F inner kind due s end at a ≡ stopped number place
+  pub items_refused : {t : Text} (r : Refusal) (due : ℕ) → 0 < due → label_at s end at kind ≡ Ok t
+      → shaped kind ≡ true → inner s end t.next ≡ stopped_by r
+      → walk_items F inner kind due s end at a ≡ stopped_by r
   unfolding walk_items
-  items_refused zero h e k i = absurd (omega arith)
-  items_refused (suc due) h e k i = rw (e, k, i)
+  items_refused r zero h e k i = absurd (omega arith)
+  items_refused r (suc due) h e k i = rw (e, k, i)
 
-  pub items-plain : {start next : ℕ} (due : ℕ) → 0 < due → label_at s end at kind ≡ Whole start next → shaped kind ≡ false
-      → walk_items F inner kind due s end at a ≡ walk_items F inner kind (due - 1) s end next (F.text kind a (slice start next s))
+  pub items-plain : {t : Text} (due : ℕ) → 0 < due → label_at s end at kind ≡ Ok t → shaped kind ≡ false
+      → walk_items F inner kind due s end at a ≡ walk_items F inner kind (due - 1) s end t.next (F.text kind a (slice t.start t.next s))
   unfolding walk_items
   items-plain zero h e k = absurd (omega arith)
   items-plain (suc due) h e k = rw (e, k, sub-one)
 
-  pub items-shaped : {start next past : ℕ} {v : X} (due : ℕ) → 0 < due → label_at s end at kind ≡ Whole start next
-      → shaped kind ≡ true → inner s end next ≡ came past v
-      → walk_items F inner kind due s end at a ≡ walk_items F inner kind (due - 1) s end past (F.item (F.text kind a (slice start next s)) v)
+  pub items-shaped : {t : Text} {past : ℕ} {v : X} (due : ℕ) → 0 < due → label_at s end at kind ≡ Ok t
+      → shaped kind ≡ true → inner s end t.next ≡ came past v
+      → walk_items F inner kind due s end at a ≡ walk_items F inner kind (due - 1) s end past (F.item (F.text kind a (slice t.start t.next s)) v)
   unfolding walk_items
   items-shaped zero h e k i = absurd (omega arith)
   items-shaped (suc due) h e k i = rw (e, k, i, sub-one)
@@ -77,7 +79,7 @@ module _ {X A : Type 0} (F : Fold X A) (inner : Walker X) (kind : Kind) (s : Lis
   pub items-bare : {past : ℕ} {v : X} (due : ℕ) → 0 < due → named kind ≡ false → shaped kind ≡ true → inner s end at ≡ came past v
       → walk_items F inner kind due s end at a ≡ walk_items F inner kind (due - 1) s end past (F.item (F.text kind a (slice at at s)) v)
   unfolding label_at
-  items-bare due h n k i = items-shaped {start = at} {next = at} due h (rw n) k i
+  items-bare due h n k i = items-shaped {t = text_of at at} due h (rw n) k i
 
 pub made-depth : (s : List ℕ) (start : ℕ) (kind : Kind) (deep : ℕ) → made_of depths s start kind deep ≡ deep + 1
 unfolding made_of
@@ -87,3 +89,8 @@ made-depth s start Record deep = refl
 made-depth s start Function deep = refl
 made-depth s start Symbol deep = refl
 made-depth s start Variable deep = refl
+
+-- what the functions' attributes name
+pub ruleset walking = (shape-by, made-depth)
+
+pub ruleset taking = (items-bad, items_refused)

@@ -20,9 +20,11 @@ use Rattle.meaning.proofs.Rules.{facts}
 use Rattle.meaning.proofs.Window.{window-none, window-some, window-all, place-some, bytes-by-index}
 use Rattle.meaning.proofs.Laws.{encode-reading, nothing_left}
 use Rattle.payloads.specs.declared.first.First.{First}
-use Rattle.reader.specs.declared.Judgement.{Judgement}
-use Rattle.reader.specs.declared.Judgement.TheVariants.{Accepted, Refused}
-use Rattle.reader.specs.Said.{said}
+use Rattle.std.specs.Prelude.{Result, Ok, Err}
+use Rattle.leaves.specs.Faults.{refusal}
+use Rattle.leaves.specs.declared.refusals.Refusal.{Refusal}
+use Rattle.reader.specs.declared.Accepted.{Accepted}
+use Rattle.reader.specs.Said.{accepted, said}
 use Rattle.payloads.specs.Payload.{primitive, primitive_at}
 use Rattle.reader.specs.Walk.{Out, came, stopped, Fold, Walker, after, by_first, shape_with, walk_shape, walk_all, depths}
 use Rattle.reader.proofs.Folding.{fold, fold-depth}
@@ -112,9 +114,9 @@ walk-reading F s = go (ltb max_bytes (length s)) refl
     go false p = rw p (rw all at (end-told F s _ _ (shape-told s F max_levels (length s) 0 (omega arith) (omega arith))))
 
 -- the answer that a walk makes
-abbrev pub judged : Out ℕ → Judgement
-judged (came next depth) = Accepted next depth
-judged (stopped number place) = Refused number place
+abbrev pub judged : Out ℕ → Result Accepted Refusal
+judged (came next depth) = Ok (accepted next depth)
+judged (stopped number place) = Err (refusal number place)
 
 -- The walk with `depths` over a list of bytes says what reading means.
 pub walk-said : (s : List ℕ) → ((i : ℕ) → get_or s i 0 < 256) → judged (walk_all depths s) ≡ said (reading s)
@@ -123,5 +125,5 @@ walk-said s b = rw (walk-reading depths s) (go (reading s) refl)
     go : (r : Reading (Tree shape)) → reading s ≡ r → judged (made_from depths (length s) r) ≡ said r
     go (got t w) p =
         let z = nothing_left s t w p in let l = ap length (encode-reading s t w (bytes-by-index s b) p).0 in
-        rw z (ap₂ Accepted (omega arith) (fold-depth t))
+        rw z (ap₂ (λ n d. Ok (accepted n d)) (omega arith) (fold-depth t))
     go (bad number place) p = refl

@@ -1,7 +1,7 @@
 -- NOT TO BE BELIEVED: proved equal to reading (proofs/Whole.antt, `walk-reading`). Private functions' contracts cite it, no public one does.
 -- 01-scope.md, "Reading order", once more, as the code goes: by places in the input s, in a window that ends at end. What is made of the
 -- shapes on the way is left open (`Fold`), so that one theorem serves every walk over an input.
-use Rattle.std.specs.Prelude.{ℕ, zero, suc, ◌+◌, ◌<◌, ◌≤◌, max, ◌≡◌, List, length, get_or, ltb, leb, eqb}
+use Rattle.std.specs.Prelude.{ℕ, zero, suc, ◌+◌, ◌<◌, ◌≤◌, max, ◌≡◌, List, length, get_or, ltb, leb, eqb, Result, Ok, Err}
 use Rattle.std.proofs.Math.Seq.{slice}
 use Rattle.meaning.specs.Rules.{◌⇒◌∣◌}
 use Rattle.meaning.specs.Limits.{max_bytes, max_levels}
@@ -9,18 +9,17 @@ use Rattle.meaning.specs.Refusals.{cut_short, not_assigned, size_wrong, long_for
 use Rattle.meaning.specs.FirstByte.{class_of}
 use Rattle.payloads.specs.First.{first_said}
 use Rattle.payloads.specs.Payload.{size_at, label_at, shaped, opening_at, short_form_of}
+use Rattle.leaves.specs.Faults.{number_of}
+use Rattle.leaves.specs.declared.refusals.Refusal.{Refusal}
 use Rattle.payloads.specs.declared.first.Kind.{Kind}
 use Rattle.payloads.specs.declared.first.Kind.TheVariants.{Array, Map, Record, Function, Symbol, Variable}
 use Rattle.payloads.specs.declared.first.First.{First}
 use Rattle.payloads.specs.declared.first.First.TheVariants.{Unassigned, Short, Long}
 use Rattle.payloads.specs.declared.Text.{Text}
-use Rattle.payloads.specs.declared.Text.TheVariants.{Whole, Bad}
 use Rattle.payloads.specs.declared.Opening.{Opening}
-use Rattle.payloads.specs.declared.Opening.TheVariants.{Items, Closed}
 use Rattle.reader.specs.declared.Head.{Head}
-use Rattle.reader.specs.declared.Head.TheVariants.{Stop, One, More}
+use Rattle.reader.specs.declared.Head.TheVariants.{One, More}
 use Rattle.reader.specs.declared.Walked.{Walked}
-use Rattle.reader.specs.declared.Walked.TheVariants.{Shape, Refused}
 
 -- what is made on the way and the place after it, or where the walk stopped, with the refusal's number
 pub data Out (X : Type 0) : Type 0 where
@@ -38,17 +37,20 @@ pub record Fold (X A : Type 0) : Type 0 where
   pub made : Kind → A → X
 
 -- the first fault ends the walk
-abbrev pub after_text : {X : Type 0} → Text → (ℕ → ℕ → Out X) → Out X
-after_text (Whole start next) go = go start next
-after_text (Bad number place) go = stopped number place
+abbrev pub stopped_by : {X : Type 0} → Refusal → Out X
+stopped_by r = stopped (number_of r.fault) r.place
+
+abbrev pub after_text : {X : Type 0} → Result Text Refusal → (ℕ → ℕ → Out X) → Out X
+after_text (Ok t) go = go t.start t.next
+after_text (Err r) go = stopped_by r
 
 abbrev pub after : {X Y : Type 0} → Out X → (ℕ → X → Out Y) → Out Y
 after (came next v) go = go next v
 after (stopped number place) go = stopped number place
 
-abbrev pub after_opening : {X : Type 0} → Opening → (ℕ → ℕ → ℕ → Out X) → Out X
-after_opening (Items stop from count) go = go stop from count
-after_opening (Closed number place) go = stopped number place
+abbrev pub after_opening : {X : Type 0} → Result Opening Refusal → (ℕ → ℕ → ℕ → Out X) → Out X
+after_opening (Ok o) go = go o.stop o.from o.count
+after_opening (Err r) go = stopped_by r
 
 -- what walks over something at a place of a window
 abbrev pub Walker : Type 0 → Type 0
@@ -119,17 +121,17 @@ depths = record {
 }
 
 -- what the code's own answers say
-abbrev pub told : Walked → Out ℕ
-told (Shape next depth) = came next depth
-told (Refused number place) = stopped number place
+abbrev pub told : Result Walked Refusal → Out ℕ
+told (Ok shape) = came shape.next shape.depth
+told (Err r) = stopped_by r
 
 -- what every answer of the reader has: the shape is no deeper than the levels left
-abbrev pub WalkedInside : ℕ → Walked → Type 0
-WalkedInside left (Shape next depth) = depth ≤ left
-WalkedInside left (Refused number place) = Unit {0}
+abbrev pub WalkedInside : ℕ → Result Walked Refusal → Type 0
+WalkedInside left (Ok shape) = shape.depth ≤ left
+WalkedInside left (Err r) = Unit {0}
 
 -- what the head of a shape says of it: where the walk over it stops, or that it is one byte, or that it has a payload and a level for it
-abbrev pub HeadIs : ℕ → List ℕ → ℕ → ℕ → Head → Type 0
-HeadIs left s end at (Stop number place) = walk_shape depths left s end at ≡ stopped number place
-HeadIs left s end at (One depth) = (walk_shape depths left s end at ≡ came (at + 1) depth) × (depth ≤ left) × (at < end)
-HeadIs left s end at (More kind) = (at < end) × (0 < left) × (first_said (class_of (get_or s at 0)) ≡ Long kind)
+abbrev pub HeadIs : ℕ → List ℕ → ℕ → ℕ → Result Head Refusal → Type 0
+HeadIs left s end at (Err r) = walk_shape depths left s end at ≡ stopped_by r
+HeadIs left s end at (Ok (One depth)) = (walk_shape depths left s end at ≡ came (at + 1) depth) × (depth ≤ left) × (at < end)
+HeadIs left s end at (Ok (More kind)) = (at < end) × (0 < left) × (first_said (class_of (get_or s at 0)) ≡ Long kind)

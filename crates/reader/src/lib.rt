@@ -1,7 +1,7 @@
 // The reader of encoded shapes: judges any bytes, in place, by one walk from the left.
 #![tactic(auto)]
 
-ghost use Rattle.std.specs.Prelude.{◌≡◌, ◌≤◌, ◌+◌, max, length};
+ghost use Rattle.std.specs.Prelude.{◌≡◌, ◌≤◌, ◌+◌, length, Ok};
 ghost use Rattle.meaning.specs.Limits.{max_levels};
 ghost use Rattle.meaning.specs.Reading.{reading};
 ghost use Rattle.reader.specs.Said.{said};
@@ -9,92 +9,87 @@ ghost use Rattle.reader.specs.declared.Head.TheVariants.{More};
 ghost use Rattle.reader.specs.Walk.{closing, walk_items, walk_shape, depths, told, WalkedInside, HeadIs};
 
 use leaves::limits::{MAX_BYTES, MAX_LEVELS};
-use leaves::refusals::{CUT_SHORT, INPUT_TOO_LONG, LONG_FORM, NOT_ASSIGNED, SIZE_WRONG, TOO_DEEP};
+use leaves::refusals::{Fault, Refusal};
 use payloads::first::{First, Kind};
-use payloads::{Opening, Text};
 
-// How bytes are judged: an accepted encoding with its length and depth, or a refusal with its number and place.
+// An accepted encoding: its length, and how deep its shape is.
 #[derive(Clone, Copy)]
-pub enum Judgement {
-    Accepted { length: usize, depth: usize },
-    Refused { number: usize, place: usize },
+pub struct Accepted {
+    pub length: usize,
+    pub depth: usize,
 }
 
-// What the walk over a shape or a list of items finds: the place after it and its depth, or a refusal.
+// What the walk over a shape or a list of items finds: the place after it, and its depth.
 #[derive(Clone, Copy)]
-pub enum Walked {
-    Shape { next: usize, depth: usize },
-    Refused { number: usize, place: usize },
+pub struct Walked {
+    pub next: usize,
+    pub depth: usize,
 }
 
-// The end of a payload whose items came to next.
-fn closing_at(s: &[u8], at: usize, stop: usize, kind: Kind, next: usize, depth: usize) -> Walked
-    requires { (at + 3 ≤ stop) × (stop ≤ length s.now) × (depth ≤ max_levels) }
-    ensures is { told result ≡ closing depths s.now at stop kind next depth }
-    ensures inside { WalkedInside (depth + 1) result }
+// The end of a payload, its window's, whose items came to next.
+#[tactic(auto, using(meaning::proofs::Rules::tests, crate::proofs::Steps::walking), unfolding(crate::specs::Walk::closing))]
+fn closing_at(w: &[u8], at: usize, kind: Kind, items: Walked) -> Result<Walked, Refusal>
+    requires { (at + 3 ≤ length w.now) × (items.depth ≤ max_levels) }
+    ensures is { told result ≡ closing depths w.now at (length w.now) kind items.next items.depth }
+    ensures inside { WalkedInside (items.depth + 1) result }
 {
-    if next == stop {
-        if payloads::short_form_of(s, at + 3, stop, kind) {
-            Walked::Refused {
-                number: LONG_FORM,
-                place: at,
-            }
-        } else {
-            Walked::Shape {
-                next: stop,
-                depth: depth + 1,
-            }
-        }
-    } else {
-        Walked::Refused {
-            number: SIZE_WRONG,
+    if items.next != w.len() {
+        return Err(Refusal {
+            fault: Fault::SizeWrong,
             place: at,
-        }
+        });
     }
+    if payloads::short_form_of(w, at + 3, kind) {
+        return Err(Refusal {
+            fault: Fault::LongForm,
+            place: at,
+        });
+    }
+    Ok(Walked {
+        next: items.next,
+        depth: items.depth + 1,
+    })
 }
 
-// What the head of a shape says: a refusal, a shape of one byte with its depth, or a kind with a payload.
+// What the head of a shape says: a shape of one byte with its depth, or a kind with a payload.
 #[derive(Clone, Copy)]
 pub enum Head {
-    Stop { number: usize, place: usize },
     One { depth: usize },
     More { kind: Kind },
 }
 
 // The head of the shape at a place of a window, with so many levels left, the shape's own among them.
-fn head_at(s: &[u8], end: usize, at: usize, left: usize) -> Head
-    requires { end ≤ length s.now }
-    ensures { HeadIs left s.now end at result }
+#[tactic(auto, using(meaning::proofs::Rules::tests, crate::proofs::Steps::walking), unfolding(crate::specs::Walk::shape_with, crate::specs::Walk::by_first))]
+fn head_at(w: &[u8], at: usize, left: usize) -> Result<Head, Refusal>
+    ensures { HeadIs left w.now (length w.now) at result }
 {
-    if end <= at {
-        return Head::Stop {
-            number: CUT_SHORT,
+    if w.len() <= at {
+        return Err(Refusal {
+            fault: Fault::CutShort,
             place: at,
-        };
+        });
     }
-    match payloads::first::first_of(s[at]) {
-        First::Unassigned => Head::Stop {
-            number: NOT_ASSIGNED,
+    let too_deep = Err(Refusal {
+        fault: Fault::TooDeep,
+        place: at,
+    });
+    match First::from(w[at]) {
+        First::Unassigned => Err(Refusal {
+            fault: Fault::NotAssigned,
             place: at,
-        },
+        }),
         First::Short { levels } => {
             if left < levels {
-                Head::Stop {
-                    number: TOO_DEEP,
-                    place: at,
-                }
+                too_deep
             } else {
-                Head::One { depth: levels }
+                Ok(Head::One { depth: levels })
             }
         }
         First::Long { kind } => {
             if left == 0 {
-                Head::Stop {
-                    number: TOO_DEEP,
-                    place: at,
-                }
+                too_deep
             } else {
-                Head::More { kind }
+                Ok(Head::More { kind })
             }
         }
     }
@@ -102,27 +97,15 @@ fn head_at(s: &[u8], end: usize, at: usize, left: usize) -> Head
 
 // A shape with a payload, whose head is read: its opening, its items and its end.
 #[cycle(items_shape)]
-fn shape(s: &[u8], end: usize, at: usize, left: usize, kind: Kind) -> Walked
-    requires { (end ≤ length s.now) × (left ≤ max_levels) × HeadIs left s.now end at (More kind) }
-    ensures is { told result ≡ walk_shape depths left s.now end at }
+fn shape(w: &[u8], at: usize, left: usize, kind: Kind) -> Result<Walked, Refusal>
+    requires { (left ≤ max_levels) × HeadIs left w.now (length w.now) at (Ok (More kind)) }
+    ensures is { told result ≡ walk_shape depths left w.now (length w.now) at }
     ensures inside { WalkedInside left result }
 {
-    match payloads::opening_at(s, end, at, kind) {
-        Opening::Closed { number, place } => Walked::Refused { number, place },
-        Opening::Items { stop, from, count } => {
-            match items(s, stop, from, left - 1, kind, count) {
-                Walked::Refused { number, place } => Walked::Refused { number, place },
-                Walked::Shape { next, depth } => closing_at(s, at, stop, kind, next, depth),
-            }
-        }
-    }
-}
-
-// The larger of two numbers.
-fn larger(a: usize, b: usize) -> usize
-    ensures { result ≡ max a b }
-{
-    if a < b { b } else { a }
+    let list = payloads::opening_at(w, at, kind)?;
+    let payload = &w[..list.stop];
+    let all = items(payload, list.from, left - 1, kind, list.count)?;
+    closing_at(payload, at, kind, all)
 }
 
 // A list that is read in part: where the next item stands, how many are due, and how deep those before are.
@@ -134,9 +117,8 @@ pub struct Run {
 }
 
 // A payload's list after the shapes of one byte at its front, where its items are shapes alone; else as it is.
-fn run_of(s: &[u8], end: usize, from: usize, left: usize, kind: Kind, count: usize) -> Run
-    requires { end ≤ length s.now }
-    ensures is { walk_items depths (walk_shape depths left) kind count s.now end from 0 ≡ walk_items depths (walk_shape depths left) kind result.due s.now end result.at result.deep }
+fn run_of(w: &[u8], from: usize, left: usize, kind: Kind, count: usize) -> Run
+    ensures is { walk_items depths (walk_shape depths left) kind count w.now (length w.now) from 0 ≡ walk_items depths (walk_shape depths left) kind result.due w.now (length w.now) result.at result.deep }
     ensures inside { (result.due ≤ count) × (result.deep ≤ left) }
 {
     let mut run = Run {
@@ -144,113 +126,90 @@ fn run_of(s: &[u8], end: usize, from: usize, left: usize, kind: Kind, count: usi
         due: count,
         deep: 0,
     };
-    if payloads::named_kind(kind) {
+    if kind.is_named() || !kind.is_shaped() {
         return run;
     }
-    if payloads::shaped_kind(kind) {
-        while 0 < run.due {
-            match head_at(s, end, run.at, left) {
-                Head::One { depth } => {
-                    run.due -= 1;
-                    run.at += 1;
-                    run.deep = larger(run.deep, depth);
-                }
-                _ => return run,
-            }
-        }
-        return run;
+    for due in (0..count).rev() {
+        let Ok(Head::One { depth }) = head_at(w, run.at, left) else {
+            return run;
+        };
+        run = Run {
+            at: run.at + 1,
+            due,
+            deep: run.deep.max(depth),
+        };
     }
     run
 }
 
-// The items of a payload's list. The pair of levels left and items left falls: a shape here has these levels and no items left, and each turn
-// leaves one item less. A shape of one byte is taken without a call.
+// The items of a payload's list. The pair of levels left and items left falls: a shape here has these levels and no items left. A shape of one
+// byte is taken without a call.
 #[cycle(items_shape)]
-fn items(s: &[u8], end: usize, from: usize, left: usize, kind: Kind, count: usize) -> Walked
-    requires { (end ≤ length s.now) × (left ≤ max_levels) }
-    ensures is { told result ≡ walk_items depths (walk_shape depths left) kind count s.now end from 0 }
+#[tactic(auto, using(crate::proofs::Steps::taking))]
+fn items(w: &[u8], from: usize, left: usize, kind: Kind, count: usize) -> Result<Walked, Refusal>
+    requires { left ≤ max_levels }
+    ensures is { told result ≡ walk_items depths (walk_shape depths left) kind count w.now (length w.now) from 0 }
     ensures inside { WalkedInside left result }
 {
-    let front = run_of(s, end, from, left, kind, count);
+    let front = run_of(w, from, left, kind, count);
     let mut at = front.at;
     let mut deep = front.deep;
-    let mut due = front.due;
-    while 0 < due {
-        due -= 1;
-        match payloads::label_at(s, end, at, kind) {
-            Text::Bad { number, place } => return Walked::Refused { number, place },
-            Text::Whole { start: _, next } => {
-                if payloads::shaped_kind(kind) {
-                    match head_at(s, end, next, left) {
-                        Head::Stop { number, place } => return Walked::Refused { number, place },
-                        Head::One { depth } => {
-                            at = next + 1;
-                            deep = larger(deep, depth);
-                        }
-                        Head::More { kind: inner } => {
-                            match shape(s, end, next, left, inner) {
-                                Walked::Refused { number, place } => {
-                                    return Walked::Refused { number, place };
-                                }
-                                Walked::Shape { next: after, depth } => {
-                                    at = after;
-                                    deep = larger(deep, depth);
-                                }
-                            }
-                        }
-                    }
-                } else {
-                    at = next;
+    for _ in 0..front.due {
+        at = payloads::label_at(w, at, kind)?.next;
+        if kind.is_shaped() {
+            match head_at(w, at, left)? {
+                Head::One { depth } => {
+                    at += 1;
+                    deep = deep.max(depth);
+                }
+                Head::More { kind: inner } => {
+                    let part = shape(w, at, left, inner)?;
+                    at = part.next;
+                    deep = deep.max(part.depth);
                 }
             }
         }
     }
-    Walked::Shape {
+    Ok(Walked {
         next: at,
         depth: deep,
-    }
+    })
 }
 
 // A shape at a place, whatever its head says.
-pub fn shape_at(s: &[u8], end: usize, at: usize, left: usize) -> Walked
-    requires { (end ≤ length s.now) × (left ≤ max_levels) }
-    ensures is { told result ≡ walk_shape depths left s.now end at }
+pub fn shape_at(w: &[u8], at: usize, left: usize) -> Result<Walked, Refusal>
+    requires { left ≤ max_levels }
+    ensures is { told result ≡ walk_shape depths left w.now (length w.now) at }
     ensures inside { WalkedInside left result }
 {
-    match head_at(s, end, at, left) {
-        Head::Stop { number, place } => Walked::Refused { number, place },
-        Head::One { depth } => Walked::Shape {
+    match head_at(w, at, left)? {
+        Head::One { depth } => Ok(Walked {
             next: at + 1,
             depth,
-        },
-        Head::More { kind } => shape(s, end, at, left, kind),
+        }),
+        Head::More { kind } => shape(w, at, left, kind),
     }
 }
 
 // Judges an encoding, whatever the bytes are.
-pub fn read(bytes: &[u8]) -> Judgement
+pub fn read(bytes: &[u8]) -> Result<Accepted, Refusal>
     ensures { result ≡ said (reading bytes.now) }
 {
     if MAX_BYTES < bytes.len() {
-        return Judgement::Refused {
-            number: INPUT_TOO_LONG,
+        return Err(Refusal {
+            fault: Fault::InputTooLong,
             place: MAX_BYTES,
-        };
+        });
     }
-    match shape_at(bytes, bytes.len(), 0, MAX_LEVELS) {
-        Walked::Refused { number, place } => Judgement::Refused { number, place },
-        Walked::Shape { next, depth } => {
-            if next == bytes.len() {
-                Judgement::Accepted {
-                    length: next,
-                    depth,
-                }
-            } else {
-                Judgement::Refused {
-                    number: SIZE_WRONG,
-                    place: next,
-                }
-            }
-        }
+    let root = shape_at(bytes, 0, MAX_LEVELS)?;
+    if root.next != bytes.len() {
+        return Err(Refusal {
+            fault: Fault::SizeWrong,
+            place: root.next,
+        });
     }
+    Ok(Accepted {
+        length: root.next,
+        depth: root.depth,
+    })
 }

@@ -1,19 +1,22 @@
 -- The entries of an accepted sheet, by their places in its bytes.
 --     all-at           what holds of each holds of entry k
---     ready_made       a sheet that the check accepts is ready, with the index that it makes
+--     ready-made       a sheet that the steps accept is ready, with the slots that they fill
+--     ready-accepted   its bytes are read as a sheet, and none is left over
 --     ready-within     the sheet is within the limits
 --     ready-count      it has as many entries as its first count says
 --     ready-room       its counts, entries and encodings are all of its bytes
+--     ready-checked    so the check says
 --     entry-room       each entry stands in it
---     blank-rises      the numbers rise
---     ready-number, ready-blank     an entry's number stands there, and its shape is what the sheet has for it
---     ready-part       its encoding stands where the index says
+--     ready-rises      the numbers rise
+--     ready-number, ready-blank     an entry's number stands there, and its shape is what the sheet has for that number
+--     ready-part       its encoding stands where its slot says
 --     ready-absent     a blank that no entry names stays
 -- Assumes nothing.
-use Prim.Native.Nat.{ℕ, zero, suc, ◌+◌, ◌*◌, ◌≤◌, ◌<◌}
+use Prim.Native.Nat.{ℕ, zero, suc, ◌+◌, ◌*◌, ◌-◌, ◌≤◌, ◌<◌}
 use mathlib.Core.Path.{◌≡◌, refl, sym, ◌∙◌, ap}
 use mathlib.Core.List.{List, [], ◌∷◌, ◌++◌}
 use mathlib.Core.Option.{none, some}
+use mathlib.Core.Bool.{true}
 use native.Mathlib.Omega.{arith}
 use lib.ListN.{length, get_or, take, drop, length-append, length-drop}
 use lib.Seq.{drop-drop, drop_at, take_at, take-length, drop-append-add}
@@ -21,7 +24,6 @@ use borrow.Author.Tests.{eq-eqb, ne_eqb}
 use Rattle.meaning.specs.Numbers.{two_bytes}
 use Rattle.meaning.specs.Shape.{Shape, blank, depth}
 use Rattle.meaning.specs.Encode.{encode}
-use Rattle.meaning.specs.Within.{Bytes}
 use Rattle.meaning.specs.Reading.{Reading, got, bad, reading}
 use Rattle.meaning.specs.Refusals.{sheet_broken}
 use Rattle.meaning.specs.Numbered.{Numbered, RisingFrom, All, find, each}
@@ -32,12 +34,13 @@ use Rattle.meaning.proofs.Complete.{two-value, encode-pos}
 use Rattle.meaning.proofs.Laws.{reading-encode}
 use Rattle.meaning.proofs.SheetBytes.{read-sheet, sheet-read, sheet-length}
 use Rattle.reader.specs.Said.{said}
-use Rattle.sheets.specs.declared.Checked.{Checked}
-use Rattle.sheets.specs.declared.Checked.TheVariants.{Sound, Broken}
-use Rattle.sheets.specs.Said.{checked}
-use Rattle.sheets.specs.Steps.{entry_place, blank_at, length_at, sum_from}
-use Rattle.sheets.specs.Index.{depths_at, index_size, deep_as, IndexSaid, sheet_in, entry, blank_in, PartIs, part, Ready, ReadyIf}
-use Rattle.sheets.proofs.Whole.{number-here, number-after, entry-after, sheet-counts}
+use Rattle.std.specs.Prelude.{Some, None, Result, Ok, Err}
+use Rattle.sheets.specs.declared.Broken.{Broken}
+use Rattle.sheets.specs.declared.Slot.{Slot}
+use Rattle.sheets.specs.Said.{sound, checked}
+use Rattle.sheets.specs.Steps.{entry_place, blank_at, length_at, sum_from, broken_at, sheet_at}
+use Rattle.sheets.specs.Index.{deep_as, slot_at, IndexSaid, is_sheet, sheet_from, sheet_in, entry, blank_in, PartIs, part, Ready, ReadyIf}
+use Rattle.sheets.proofs.Whole.{number-here, number-after, entry-after, ended, steps-ended}
 
 -- No entry has a number below where the numbers rise from.
 rising-least : (m : ℕ) (σ : Sheet) (k : ℕ) → RisingFrom m σ → k < length σ → m ≤ (entry σ k).number
@@ -131,33 +134,32 @@ module _ (s v : List ℕ) where
 deep_is : (t : Shape) (r : Reading Shape) → r ≡ got t [] → deep_as (said r) ≡ depth t
 deep_is t r h = rw h
 
--- A sheet that is read, with an index that has its entries, is ready.
-made-from : (s index : List ℕ) → Bytes s → index_size ≤ length index → (x : Reading Sheet) → read_sheet sheet_broken s ≡ x → (r : Checked) → r ≡ checked x → IndexSaid s index (entry_place (number_at s 0) + count_size) r → ReadyIf s index r
-unfolding sheet_in
-made-from s index b n x e (Broken p) h i = tt
-made-from s index b n (bad m p) e (Sound c l) h i = let z : ◌≡◌ {A = ℕ} 0 1 = cc in absurd (omega arith)
-made-from s index b n (got σ v) e (Sound c l) h i =
-    let g = sheet-read sheet_broken s σ v b e in
-    let k : c ≡ length σ = cc in
-    record {
-      small = b;
-      accepted = rw e (sym e ∙ ap (read_sheet sheet_broken) g.0 ∙ read-sheet sheet_broken σ g.1);
-      room = n;
-      placed = λ j f. i j (omega (arith, (sheet-counts sheet_broken s σ v b e).0));
-    }
+-- A sheet that the steps accept, with slots that are its entries', is ready.
+pub ready-made : (s : List ℕ) (r : Result (List Slot) Broken) → ((i : ℕ) → get_or s i 0 < 256) → broken_at r ≡ sheet_at s → IndexSaid s (number_at s 0) (entry_place (number_at s 0) + count_size) r → ReadyIf s r
+ready-made s (Err p) b h i = tt
+ready-made s (Ok slots) b h i = record { small = b; accepted = go (read_sheet sheet_broken s) refl; placed = i }
+  where
+    go : (x : Reading Sheet) → read_sheet sheet_broken s ≡ x → is_sheet x ≡ true
+    go (got σ v) e = refl
+    go (bad n p) e = let z : None ≡ Some p = h ∙ steps-ended sheet_broken s ∙ ap ended e in cc
 
--- So by what the check says of it.
-pub ready_made : (s index : List ℕ) (r : Checked) → ((i : ℕ) → get_or s i 0 < 256) → index_size ≤ length index → r ≡ checked (read_sheet sheet_broken s) → IndexSaid s index (entry_place (number_at s 0) + count_size) r → ReadyIf s index r
-ready_made s index r b n h i = made-from s index (bytes-by-index s b) n (read_sheet sheet_broken s) refl r h i
+module _ {s : List ℕ} {slots : List Slot} (r : Ready s slots) where
+  -- Its bytes are read as a sheet, and none is left over.
+  pub ready-accepted : read_sheet sheet_broken s ≡ got (sheet_in s) []
+  unfolding sheet_in
+  ready-accepted = go (read_sheet sheet_broken s) refl r.accepted
+    where
+      go : (x : Reading Sheet) → read_sheet sheet_broken s ≡ x → is_sheet x ≡ true → read_sheet sheet_broken s ≡ got (sheet_from (read_sheet sheet_broken s)) []
+      go (got σ v) e a = let g = sheet-read sheet_broken s σ v (bytes-by-index s r.small) e in rw e (sym e ∙ ap (read_sheet sheet_broken) g.0 ∙ read-sheet sheet_broken σ g.1)
+      go (bad n p) e a = cc
 
-module _ {s index : List ℕ} (r : Ready s index) where
   -- The sheet that was read has the bytes that were read.
   whole : s ≡ sheet_bytes (sheet_in s)
-  whole = (sheet-read sheet_broken s (sheet_in s) [] r.small r.accepted).0
+  whole = (sheet-read sheet_broken s (sheet_in s) [] (bytes-by-index s r.small) ready-accepted).0
 
   -- It is within the limits.
   pub ready-within : SheetWithin (sheet_in s)
-  ready-within = (sheet-read sheet_broken s (sheet_in s) [] r.small r.accepted).1
+  ready-within = (sheet-read sheet_broken s (sheet_in s) [] (bytes-by-index s r.small) ready-accepted).1
 
   -- It has as many entries as its first count says.
   pub ready-count : number_at s 0 ≡ length (sheet_in s)
@@ -167,6 +169,10 @@ module _ {s index : List ℕ} (r : Ready s index) where
   -- Its two counts, its entries and its encodings are all of its bytes.
   pub ready-room : length s ≡ entry_place (number_at s 0) + count_size + length (encodings (sheet_in s))
   ready-room = rw ready-count (ap length whole ∙ sheet-length (sheet_in s))
+
+  -- The check says of it how many entries it has, and how many bytes follow its second count.
+  pub ready-checked : (t : List ℕ) (n : ℕ) → s ≡ t → n ≡ length (sheet_in s) → Ok (sound n (length t - (entry_place n + count_size))) ≡ checked (read_sheet sheet_broken t)
+  ready-checked t n e h = rw (← e, ready-accepted, h) (ap (λ (m : ℕ). Ok (sound (length (sheet_in s)) m)) (omega (arith, ready-room, ready-count)))
 
   -- what follows the entries
   abbrev rest : List ℕ
@@ -186,8 +192,8 @@ module _ {s index : List ℕ} (r : Ready s index) where
         ends = sym ready-room;
       }
 
-  -- Entry k stands where the index says.
-  ready-stands : (k : ℕ) → k < length (sheet_in s) → Stands s k (get_or index k 0) (entry (sheet_in s) k)
+  -- Entry k stands where its slot says.
+  ready-stands : (k : ℕ) → k < length (sheet_in s) → Stands s k (slot_at slots k).start (entry (sheet_in s) k)
   ready-stands k h = stands s rest (sheet_in s) 0 _ k k _ left h (omega arith) (r.placed k (omega (arith, ready-count))).start
 
   -- Entry k has room.
@@ -195,21 +201,21 @@ module _ {s index : List ℕ} (r : Ready s index) where
   entry-room k h = (ready-stands k h).room
 
   -- A later entry has a larger number.
-  pub blank-rises : (j k : ℕ) → j < k → k < length (sheet_in s) → blank_at s j < blank_at s k
-  blank-rises j k l h = rw ((ready-stands j (omega arith)).number, (ready-stands k h).number) (rising-at 0 (sheet_in s) j k ready-within.rising l h)
+  pub ready-rises : (j k : ℕ) → j < k → k < length (sheet_in s) → (entry (sheet_in s) j).number < (entry (sheet_in s) k).number
+  ready-rises j k l h = rising-at 0 (sheet_in s) j k ready-within.rising l h
 
   -- Entry k has the number that stands there.
   pub ready-number : (k : ℕ) → k < length (sheet_in s) → blank_at s k ≡ (entry (sheet_in s) k).number
   ready-number k h = (ready-stands k h).number
 
   -- What the sheet has for that number is the entry's shape.
-  pub ready-blank : (k : ℕ) → k < length (sheet_in s) → blank_in s (blank_at s k) ≡ (entry (sheet_in s) k).item
+  pub ready-blank : (k : ℕ) → k < length (sheet_in s) → blank_in s (entry (sheet_in s) k).number ≡ (entry (sheet_in s) k).item
   unfolding or_blank
-  ready-blank k h = rw (ready-number k h, find_at 0 (sheet_in s) k ready-within.rising h)
+  ready-blank k h = rw (find_at 0 (sheet_in s) k ready-within.rising h)
 
-  -- The entry's encoding stands where the index says, and is as deep.
+  -- The entry's encoding stands where its slot says, and is as deep.
   pub ready-part : (k : ℕ) → k < length (sheet_in s)
-      → PartIs s (entry (sheet_in s) k).item (part (get_or index k 0) (get_or index k 0 + length_at s k) (get_or index (depths_at + k) 0))
+      → PartIs s (entry (sheet_in s) k).item (part (slot_at slots k).start ((slot_at slots k).start + length_at s k) (slot_at slots k).depth)
   ready-part k h =
       let t = ready-stands k h in
       let e : Shape = (entry (sheet_in s) k).item in
@@ -218,12 +224,12 @@ module _ {s index : List ℕ} (r : Ready s index) where
       record {
         some = omega (arith, t.size, encode-pos e);
         inside = t.inside;
-        is = sym (rw take-length at (window-take s (get_or index k 0) (length s) (length_at s k) t.inside)) ∙ t.bytes;
+        is = sym (rw take-length at (window-take s (slot_at slots k).start (length s) (length_at s k) t.inside)) ∙ t.bytes;
         deep = d ∙ rw t.bytes (deep_is e (reading (encode e)) (reading-encode e w));
         within = w;
       }
 
   -- A blank that no entry names stays.
-  pub ready-absent : (n : ℕ) → ((k : ℕ) → k < length (sheet_in s) → blank_at s k ≡ n → ⊥) → blank_in s n ≡ blank n
+  pub ready-absent : (n : ℕ) → ((k : ℕ) → k < length (sheet_in s) → (entry (sheet_in s) k).number ≡ n → ⊥) → blank_in s n ≡ blank n
   unfolding or_blank
-  ready-absent n f = rw (find_none (sheet_in s) n (λ k h q. f k h ((ready-stands k h).number ∙ q)))
+  ready-absent n f = rw (find_none (sheet_in s) n f)

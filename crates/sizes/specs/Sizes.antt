@@ -1,6 +1,6 @@
 -- What a shape measures once its blanks are filled, and the pass over the bytes that finds it (steps/specs/Pass.antt). Contracts between our own
 -- crates cite it, no public one does.
-use Rattle.std.specs.Prelude.{ℕ, ◌+◌, ◌*◌, ◌-◌, ◌≤◌, max, ◌≡◌, List, Bool, true, false, ◌&&◌, length, get_or, ltb, eqb}
+use Rattle.std.specs.Prelude.{ℕ, ◌+◌, ◌*◌, ◌≤◌, max, ◌≡◌, List, Bool, true, false, ◌&&◌, length, get_or, ltb, eqb}
 use Rattle.std.proofs.Math.Option.{Option, none, some}
 use Rattle.meaning.specs.Rules.{◌⇒◌∣◌}
 use Rattle.meaning.specs.Limits.{max_bytes, max_levels}
@@ -33,10 +33,10 @@ is_some (some p) = true
 abbrev pub size_of : Shape → Size
 size_of t = size (length (encode t)) (depth t) (is_some (as_prim t))
 
--- the bytes from start to end are a primitive's
-unfoldable pub prim_in : List ℕ → ℕ → ℕ → Bool
-prim_in w start end =
-    eqb (end - start) 1 ⇒ (ltb (get_or w start 0) (prim_byte 0) ⇒ false ∣ λ _. ltb (get_or w start 0) (prim_byte 5)) ∣ λ _.
+-- an encoding is a primitive's: one byte
+unfoldable pub prim_in : List ℕ → Bool
+prim_in w =
+    eqb (length w) 1 ⇒ (ltb (get_or w 0 0) (prim_byte 0) ⇒ false ∣ λ _. ltb (get_or w 0 0) (prim_byte 5)) ∣ λ _.
     false
 
 -- a shape of one byte, by the byte and its depth; σ says what becomes of a blank

@@ -10,8 +10,9 @@ use lib.ListN.{length, get_or}
 use lib.Dec.{ltb, leb, eqb}
 use Rattle.meaning.proofs.Rules.{facts, rule}
 use Rattle.leaves.specs.Leb.{leb_at}
+use Rattle.leaves.specs.declared.refusals.Refusal.{Refusal}
 use Rattle.leaves.specs.declared.Leb.{Leb}
-use Rattle.leaves.specs.declared.Leb.TheVariants.{Number, Fault}
+use Rattle.std.specs.Prelude.{Result, Ok, Err}
 use Rattle.leaves.proofs.Numbers.{steps, leb-steps}
 use Rattle.payloads.specs.Payload.{named, size_at}
 use Rattle.payloads.specs.declared.first.Kind.{Kind}
@@ -22,9 +23,9 @@ use Rattle.steps.specs.Steps.{first_at, past_long, past_leb, past_text, past_nam
 use Rattle.steps.specs.Pass.{Came, Pass, Passer, pass_items, pass_list, pass_long, pass_first, pass_shape}
 
 -- a number's end is no further than a place
-abbrev Ends : ℕ → Leb → Type 0
-Ends end (Number v n) = n ≤ end
-Ends end (Fault k) = Unit {0}
+abbrev Ends : ℕ → Result Leb Refusal → Type 0
+Ends end (Ok l) = l.next ≤ end
+Ends end (Err r) = Unit {0}
 
 module _ (s : List ℕ) where
   -- A number ends inside the input.
@@ -44,9 +45,9 @@ module _ (s : List ℕ) where
   unfolding past_text
   text-inside at h = go (leb_at s (length s) at) (leb-inside at)
     where
-      go : (l : Leb) → Ends (length s) l → past_leb s at l ≤ length s
-      go (Fault k) e = h
-      go (Number size start) e = rule (λ n. n ≤ length s) (ltb (length s - start) size) _ _ (λ p. h) (λ p. omega (arith, facts))
+      go : (l : Result Leb Refusal) → Ends (length s) l → past_leb s at l ≤ length s
+      go (Err r) e = h
+      go (Ok size) e = rule (λ n. n ≤ length s) (ltb (length s - size.next) size.value) _ _ (λ p. h) (λ p. omega (arith, facts))
 
   -- a name,
   name-inside : (at : ℕ) (kind : Kind) → at ≤ length s → past_name s at kind ≤ length s
@@ -62,9 +63,9 @@ module _ (s : List ℕ) where
       omega (arith, facts)
 
   -- a list's count.
-  counted-inside : (start more : ℕ) → start ≤ length s → (l : Leb) → Ends (length s) l → (counted_by start more l).from ≤ length s
-  counted-inside start more h (Fault k) e = h
-  counted-inside start more h (Number v n) e = e
+  counted-inside : (start more : ℕ) → start ≤ length s → (l : Result Leb Refusal) → Ends (length s) l → (counted_by start more l).from ≤ length s
+  counted-inside start more h (Err r) e = h
+  counted-inside start more h (Ok l) e = e
 
   -- So the items of a list start inside.
   list_inside : (start : ℕ) (kind : Kind) → start ≤ length s → (list_at s start kind).from ≤ length s

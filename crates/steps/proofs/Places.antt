@@ -20,8 +20,8 @@ use Rattle.meaning.specs.Encode.{sized, text_bytes, encode}
 use Rattle.meaning.specs.Parts.{Item, bare, named, lone, name_bytes, shape_bytes, list_bytes}
 use Rattle.meaning.proofs.Complete.{count-reads, two-value, class-kind, encode-pos, leb-pos}
 use Rattle.meaning.proofs.Heads.{Head, whole-byte, packed_byte, payload, head_of}
-use Rattle.leaves.specs.Leb.{leb_at}
-use Rattle.leaves.specs.declared.Leb.TheVariants.{Number}
+use Rattle.leaves.specs.Leb.{leb_of, leb_at}
+use Rattle.std.specs.Prelude.{Ok}
 use Rattle.payloads.specs.First.{first_said}
 use Rattle.payloads.specs.Payload as Payload
 use Rattle.payloads.specs.declared.first.Kind as first
@@ -69,11 +69,11 @@ past-shape s at c x h = rw (lt-leb (length s) at some) (go (head_of c))
     go (payload k q e p) = rw (first (kind_byte k) (two_bytes (length q) ++ q) e, class-kind k, e) (past-long s at k q x (rw e at h))
 
 -- the LEB128 number that stands at a place
-pub leb-at : (s : List ℕ) (at n : ℕ) (y : List ℕ) → n < 16384 → at ≤ length s → Stands s at (leb128 n ++ y) → leb_at s (length s) at ≡ Number n (at + length (leb128 n))
+pub leb-at : (s : List ℕ) (at n : ℕ) (y : List ℕ) → n < 16384 → at ≤ length s → Stands s at (leb128 n ++ y) → leb_at s (length s) at ≡ Ok (leb_of n (at + length (leb128 n)))
 unfolding leb_at
 leb-at s at n y b i h =
     let l = simp length-append at (stands-length s at _ h) in
-    rw (take-length s, h, count-reads n b (length s) y) (ap (Number n) (omega arith))
+    rw (take-length s, h, count-reads n b (length s) y) (ap (λ x. Ok (leb_of n x)) (omega arith))
 
 pub past-text : (s : List ℕ) (at : ℕ) (t x : List ℕ) → length t < 16384 → Stands s at (text_bytes t ++ x) → past_text s at ≡ at + length (text_bytes t)
 unfolding past_text

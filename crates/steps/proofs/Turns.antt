@@ -1,22 +1,18 @@
--- `past_items`, as the code counts: down by one.
---     items-one   of the items that are due, one is passed over, and the others follow it
---     items-none  where none is due, the place stays
+-- `past_items`, as the code counts: up by one.
+--     items_more     one item more is passed over after the others
 -- Assumes nothing.
 use mathlib.Core.Path.{◌≡◌, refl}
 use mathlib.Core.List.{List}
-use Prim.Native.Nat.{ℕ, zero, suc, ◌-◌, ◌<◌, ◌≤◌}
-use native.Mathlib.Numerals.{sub-one}
-use native.Mathlib.Omega.{arith}
+use Prim.Native.Nat.{ℕ, zero, suc, ◌+◌}
+use native.Mathlib.Numerals.{add-one}
 use Rattle.payloads.specs.declared.first.Kind.{Kind}
 use Rattle.steps.specs.Steps.{past_item, past_items}
 
-module _ (s : List ℕ) (kind : Kind) (at : ℕ) where
-  pub items-one : (due : ℕ) → 0 < due → past_items s kind due at ≡ past_items s kind (due - 1) (past_item s at kind)
+module _ (s : List ℕ) (kind : Kind) where
+  after : (k at : ℕ) → past_items s kind (suc k) at ≡ past_item s (past_items s kind k at) kind
   unfolding past_items
-  items-one zero h = absurd (omega arith)
-  items-one (suc due) h = rw sub-one
+  after zero at = refl
+  after (suc k) at = after k (past_item s at kind)
 
-  pub items-none : (due : ℕ) → due ≤ 0 → at ≡ past_items s kind due at
-  unfolding past_items
-  items-none zero h = refl
-  items-none (suc due) h = absurd (omega arith)
+  pub items_more : (k at : ℕ) → past_items s kind (k + 1) at ≡ past_item s (past_items s kind k at) kind
+  items_more k at = rw add-one (after k at)

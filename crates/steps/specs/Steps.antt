@@ -1,11 +1,11 @@
 -- NOT TO BE BELIEVED: of every accepted encoding proved to find what stands there (proofs/Places.antt). Steps over an accepted encoding, by places in
 -- the input s. They stay inside s whatever its bytes are, so they ask nothing of their callers. Only contracts between our own crates cite them.
-use Rattle.std.specs.Prelude.{ℕ, zero, suc, ◌+◌, ◌-◌, ◌<◌, ◌≤◌, max, List, length, get_or, ltb, leb}
+use Rattle.std.specs.Prelude.{ℕ, zero, suc, ◌+◌, ◌-◌, ◌<◌, ◌≤◌, max, List, length, get_or, ltb, leb, Result, Ok, Err}
 use Rattle.meaning.specs.Rules.{◌⇒◌∣◌}
 use Rattle.meaning.specs.FirstByte.{class_of}
 use Rattle.leaves.specs.Leb.{leb_at}
+use Rattle.leaves.specs.declared.refusals.Refusal.{Refusal}
 use Rattle.leaves.specs.declared.Leb.{Leb}
-use Rattle.leaves.specs.declared.Leb.TheVariants.{Number, Fault}
 use Rattle.payloads.specs.First.{first_said}
 use Rattle.payloads.specs.Payload.{named, shaped, size_at}
 use Rattle.payloads.specs.declared.first.Kind.{Kind}
@@ -46,9 +46,9 @@ unfoldable pub past_shape : List ℕ → ℕ → ℕ
 past_shape s at = past_first s at (first_at s at)
 
 -- the place after the text at a place, and after an item's name, where it has one
-abbrev pub past_leb : List ℕ → ℕ → Leb → ℕ
-past_leb s at (Fault number) = at
-past_leb s at (Number size start) = ltb (length s - start) size ⇒ at ∣ λ _. start + size
+abbrev pub past_leb : List ℕ → ℕ → Result Leb Refusal → ℕ
+past_leb s at (Err r) = at
+past_leb s at (Ok size) = ltb (length s - size.next) size.value ⇒ at ∣ λ _. size.next + size.value
 
 unfoldable pub past_text : List ℕ → ℕ → ℕ
 past_text s at = past_leb s at (leb_at s (length s) at)
@@ -68,9 +68,9 @@ past_items s kind (suc k) at = past_items s kind k (past_item s at kind)
 abbrev pub listing : ℕ → ℕ → Listing
 listing from count = record { from = from; count = count }
 
-abbrev pub counted_by : ℕ → ℕ → Leb → Listing
-counted_by start more (Fault number) = listing start 0
-counted_by start more (Number count next) = listing next (count + more)
+abbrev pub counted_by : ℕ → ℕ → Result Leb Refusal → Listing
+counted_by start more (Err r) = listing start 0
+counted_by start more (Ok count) = listing count.next (count.value + more)
 
 unfoldable pub list_at : List ℕ → ℕ → Kind → Listing
 list_at s start Array = listing start 1

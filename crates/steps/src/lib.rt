@@ -7,7 +7,6 @@ ghost use Rattle.std.specs.Prelude.{◌≡◌, ◌≤◌, max, length};
 ghost use Rattle.leaves.specs.Leb.{leb_at};
 ghost use Rattle.steps.specs.Steps.{first_at, FirstInside, past_long, past_shape, past_text, past_name, past_item, past_items, counted_by, list_at, ListingInside};
 
-use leaves::Leb;
 use payloads::first::{First, Kind};
 
 // The first byte and the payload's size.
@@ -17,6 +16,7 @@ pub const HEAD_SIZE: usize = 3;
 pub const LONG_BLANK: usize = 5;
 
 // The place after the shape with a payload at a place.
+#[tactic(auto, using(meaning::proofs::Rules::tests), unfolding(crate::specs::Steps::past_long))]
 pub fn past_long(s: &[u8], at: usize) -> usize
     requires { at ≤ length s.now }
     ensures is { result ≡ past_long s.now at }
@@ -34,51 +34,49 @@ pub fn past_long(s: &[u8], at: usize) -> usize
 }
 
 // What the first byte at a place says; past the end nothing is assigned.
+#[tactic(auto, using(meaning::proofs::Rules::tests), unfolding(crate::specs::Steps::first_at))]
 pub fn first_at(s: &[u8], at: usize) -> First
     ensures is { result ≡ first_at s.now at }
     ensures inside { FirstInside s.now at result }
 {
-    if s.len() <= at {
-        return First::Unassigned;
+    match s.get(at) {
+        Some(b) => First::from(*b),
+        None => First::Unassigned,
     }
-    payloads::first::first_of(s[at])
 }
 
 // The place after the shape at a place, by its head.
+#[tactic(auto, unfolding(crate::specs::Steps::past_shape))]
 pub fn past_shape(s: &[u8], at: usize) -> usize
     ensures is { result ≡ past_shape s.now at }
     ensures onward { at ≤ result }
 {
     match first_at(s, at) {
         First::Unassigned => at,
-        First::Short { levels: _ } => at + 1,
-        First::Long { kind: _ } => past_long(s, at),
+        First::Short { .. } => at + 1,
+        First::Long { .. } => past_long(s, at),
     }
 }
 
 // The place after the text whose length stands at a place.
+#[tactic(auto, using(meaning::proofs::Rules::tests), unfolding(crate::specs::Steps::past_text))]
 fn past_text(s: &[u8], at: usize) -> usize
     ensures is { result ≡ past_text s.now at }
     ensures inside { (at ≤ result) × (result ≤ max at (length s.now)) }
 {
-    match leaves::leb128(s, s.len(), at) {
-        Leb::Fault { number: _ } => at,
-        Leb::Number { value, next } => {
-            if s.len() - next < value {
-                at
-            } else {
-                next + value
-            }
-        }
+    match leaves::leb128(s, at) {
+        Ok(size) if size.value <= s.len() - size.next => size.next + size.value,
+        _ => at,
     }
 }
 
 // The place after an item's name, where its kind has names.
+#[tactic(auto, unfolding(crate::specs::Steps::past_name))]
 pub fn past_name(s: &[u8], at: usize, kind: Kind) -> usize
     ensures is { result ≡ past_name s.now at kind }
     ensures inside { (at ≤ result) × (result ≤ max at (length s.now)) }
 {
-    if payloads::named_kind(kind) {
+    if kind.is_named() {
         past_text(s, at)
     } else {
         at
@@ -86,11 +84,12 @@ pub fn past_name(s: &[u8], at: usize, kind: Kind) -> usize
 }
 
 // The place after an item.
+#[tactic(auto, unfolding(crate::specs::Steps::past_item))]
 fn past_item(s: &[u8], at: usize, kind: Kind) -> usize
     ensures { result ≡ past_item s.now at kind }
 {
     let start = past_name(s, at, kind);
-    if payloads::shaped_kind(kind) {
+    if kind.is_shaped() {
         past_shape(s, start)
     } else {
         start
@@ -98,13 +97,12 @@ fn past_item(s: &[u8], at: usize, kind: Kind) -> usize
 }
 
 // The place after k items.
+#[tactic(auto, using(crate::proofs::Turns::items_more), unfolding(crate::specs::Steps::past_items))]
 pub fn past_items(s: &[u8], kind: Kind, k: u64, from: usize) -> usize
     ensures { result ≡ past_items s.now kind k from }
 {
     let mut at = from;
-    let mut due = k;
-    while 0 < due {
-        due -= 1;
+    for _ in 0..k {
         at = past_item(s, at, kind);
     }
     at
@@ -123,19 +121,20 @@ fn counted_list(s: &[u8], start: usize, more: usize) -> Listing
     ensures is { result ≡ counted_by start more (leb_at s.now (length s.now) start) }
     ensures inside { ListingInside s.now start result }
 {
-    match leaves::leb128(s, s.len(), start) {
-        Leb::Fault { number: _ } => Listing {
+    match leaves::leb128(s, start) {
+        Ok(count) => Listing {
+            from: count.next,
+            count: count.value + more,
+        },
+        Err(_) => Listing {
             from: start,
             count: 0,
-        },
-        Leb::Number { value, next } => Listing {
-            from: next,
-            count: value + more,
         },
     }
 }
 
 // The list of an accepted encoding's payload, from the payload's start on, by its kind.
+#[tactic(auto, unfolding(crate::specs::Steps::list_at))]
 pub fn list_at(s: &[u8], start: usize, kind: Kind) -> Listing
     ensures is { result ≡ list_at s.now start kind }
     ensures inside { ListingInside s.now start result }
@@ -149,9 +148,8 @@ pub fn list_at(s: &[u8], start: usize, kind: Kind) -> Listing
             from: start,
             count: 2,
         },
-        Kind::Record => counted_list(s, start, 0),
+        Kind::Record | Kind::Symbol => counted_list(s, start, 0),
         Kind::Function => counted_list(s, start, 1),
-        Kind::Symbol => counted_list(s, start, 0),
         Kind::Variable => Listing {
             from: start,
             count: 0,

@@ -23,6 +23,7 @@ fn kind_byte(kind: Kind) -> u8
 }
 
 // The head of a payload of so many bytes.
+#[tactic(auto, using(buffers::proofs::Written::written_after))]
 pub fn put_head(kind: Kind, size: usize, out: &mut [u8], to: usize)
     requires { (size < 65536) × (to + 3 ≤ length out.old) }
     ensures { out.new ≡ written out.old to (head_bytes kind size) }
@@ -32,6 +33,7 @@ pub fn put_head(kind: Kind, size: usize, out: &mut [u8], to: usize)
 }
 
 // The blank n. The place after it.
+#[tactic(auto, using(buffers::proofs::Written::written_after, meaning::proofs::Rules::tests), unfolding(meaning::specs::Encode::blank_bytes))]
 pub fn put_blank(n: usize, out: &mut [u8], to: usize) -> usize
     requires { (n < 65536) × (to + length (blank_bytes n) ≤ length out.old) }
     ensures after { result ≡ to + length (blank_bytes n) }

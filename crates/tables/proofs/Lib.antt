@@ -1,3 +1,4 @@
 pub mod Turns
 pub mod ByKind
 pub mod Whole
+pub mod Read

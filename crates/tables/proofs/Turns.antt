@@ -4,9 +4,10 @@
 --     node-good, node-bad, node_end     one node of those that are due, and none
 --     name-good, name-bad, name-end     one name of those that are due, and none
 --     node-within, name-within          the first that is broken is one of those that are due, or there is none
+--     found-some, found-none            what is said of the first that is broken
 --     name-wide, name-text              how a name is judged: by its range, and by its text
 -- Assumes nothing.
-use mathlib.Core.Path.{◌≡◌, sym}
+use mathlib.Core.Path.{◌≡◌, sym, ap}
 use mathlib.Core.Bool.{Bool, true, false}
 use mathlib.Core.List.{List}
 use Prim.Native.Nat.{ℕ, zero, suc, ◌+◌, ◌*◌, ◌-◌, ◌≤◌, ◌<◌}
@@ -21,9 +22,10 @@ use Rattle.meaning.specs.SheetReading.{count_size, number_at}
 use Rattle.meaning.specs.Table as Meant
 use Rattle.meaning.proofs.Rules.{facts, rule}
 use Rattle.leaves.proofs.Text.{utf8-to}
-use Rattle.tables.specs.declared.Section.TheVariants.{Whole, Broken}
+use Rattle.std.specs.Prelude.{Option, Some, None}
+use Rattle.tables.specs.declared.Section.{Section}
 use Rattle.tables.specs.declared.Way.{Way}
-use Rattle.tables.specs.Places.{text_place, section_of, link_at, node_at, name_at, good_by, good_from, good_at, first_bad_node, good_name, first_bad_name}
+use Rattle.tables.specs.Places.{section, text_place, section_of, link_at, node_at, name_at, good_by, good_from, good_at, first_bad_node, good_name, first_bad_name, found_below}
 
 -- a section with so many entries, and the place after them
 pub record Ended (rest : List ℕ) (at most size count next : ℕ) : Type 0 where
@@ -32,18 +34,27 @@ pub record Ended (rest : List ℕ) (at most size count next : ℕ) : Type 0 wher
   pub after : next ≡ at + count_size + size * count
   pub inside : next ≤ length rest
 
+-- what a section has
+abbrev count_in : Option Section → ℕ
+count_in (Some s) = s.count
+count_in None = 0
+
+abbrev next_in : Option Section → ℕ
+next_in (Some s) = s.next
+next_in None = 0
+
 -- A section that is whole has its count, not too large, and its entries are there.
-pub section-ended : (rest : List ℕ) (at most size count next : ℕ) → section_of rest at most size ≡ Whole count next → Ended rest at most size count next
+pub section-ended : (rest : List ℕ) (at most size count next : ℕ) → section_of rest at most size ≡ Some (section count next) → Ended rest at most size count next
 unfolding section_of
 section-ended rest at most size count next =
-    rule (λ r. r ≡ Whole count next → Ended rest at most size count next) (ltb (length rest - at) count_size) _ _ (λ _ h. none h) λ t.
-    rule (λ r. r ≡ Whole count next → Ended rest at most size count next) (ltb most (number_at rest at)) _ _ (λ _ h. none h) λ u.
-    rule (λ r. r ≡ Whole count next → Ended rest at most size count next) (ltb (length rest - at - count_size) (size * number_at rest at)) _ _ (λ _ h. none h) λ v h.
-    let p : number_at rest at ≡ count = cc in let q : at + count_size + size * number_at rest at ≡ next = cc in
+    rule (λ r. r ≡ Some (section count next) → Ended rest at most size count next) (ltb (length rest - at) count_size) _ _ (λ _ h. none h) λ t.
+    rule (λ r. r ≡ Some (section count next) → Ended rest at most size count next) (ltb most (number_at rest at)) _ _ (λ _ h. none h) λ u.
+    rule (λ r. r ≡ Some (section count next) → Ended rest at most size count next) (ltb (length rest - at - count_size) (size * number_at rest at)) _ _ (λ _ h. none h) λ v h.
+    let p = ap count_in h in let q = ap next_in h in
     record { is = p; few = omega (arith, facts); after = rw (← p) (sym q); inside = omega (arith, facts) }
   where
     -- a broken section is not whole
-    none : Broken ≡ Whole count next → Ended rest at most size count next
+    none : ◌≡◌ {A = Option Section} None (Some (section count next)) → Ended rest at most size count next
     none h = let z : ◌≡◌ {A = ℕ} 0 1 = cc in absurd (omega arith)
 
 -- link x is the first of those that are due
@@ -133,3 +144,11 @@ name-within rest links names text zero k = omega arith
 name-within rest links names text (suc c) k =
     let h = name-within rest links names text c (suc k) in
     rule (λ r. r ≤ k + suc c) (good_name rest links names text (name_at rest links k)) _ _ (λ _. omega arith) λ _. omega arith
+
+-- Where the first that is broken is one of so many, it is found; where none is, the search ended at the count.
+pub found-some : (count i n : ℕ) → found_below count i ≡ Some n → (n ≡ i) × (n < count)
+found-some count i n =
+    rule (λ o. o ≡ Some n → (n ≡ i) × (n < count)) (ltb i count) _ _ (λ t h. let e : i ≡ n = cc in (sym e, omega (arith, facts))) λ _ h. let z : ◌≡◌ {A = ℕ} 0 1 = cc in absurd (omega arith)
+
+pub found-none : (count i : ℕ) → found_below count i ≡ None → count ≤ i
+found-none count i = rule (λ o. o ≡ None → count ≤ i) (ltb i count) _ _ (λ _ h. let z : ◌≡◌ {A = ℕ} 0 1 = cc in absurd (omega arith)) λ t h. omega (arith, facts)

@@ -31,12 +31,12 @@ use Rattle.meaning.specs.TableReading.{node_size, link_size, name_size, section_
 use Rattle.meaning.proofs.Rules.{facts, both}
 use Rattle.meaning.proofs.Complete.{two-value}
 use Rattle.tables.specs.declared.Section.{Section}
-use Rattle.tables.specs.declared.Section.TheVariants as section
 use Rattle.tables.specs.declared.Layout.{Layout}
-use Rattle.tables.specs.declared.Layout.TheVariants.{Laid, Broken}
+use Rattle.tables.specs.declared.Broken.{Broken}
+use Rattle.std.specs.Prelude.{Option, Some, None, Result, Ok, Err}
 use Rattle.tables.specs.declared.Way.{Way}
 use Rattle.tables.specs.declared.Way.TheVariants.{Bare, Named, Texts}
-use Rattle.tables.specs.Places.{link_place, name_place, text_place, section_of, after_section, layout_at, table_in, node_at, link_at, name_at, good_by, good_from, good_span, good_at, first_bad_node, good_name, first_bad_name}
+use Rattle.tables.specs.Places.{layout, broken, link_place, name_place, text_place, section_of, after_section, layout_at, table_in, node_at, link_at, name_at, good_by, good_from, good_span, good_at, first_bad_node, good_name, first_bad_name, Fits}
 use Rattle.tables.proofs.Turns.{section-ended}
 
 -- A test holds or fails.
@@ -59,9 +59,9 @@ slice-drop (suc k) a e [] = rw (take-nil e, take-nil (suc k + e), drop-nil a, dr
 slice-drop (suc k) a e (x ∷ s) = rw (suc-add k a, suc-add k e) (slice-drop k a e s)
 
 -- what a section says of the bytes after its count
-abbrev section_said : ℕ → List ℕ → Section → Reading ℕ
-section_said p w (section.Whole count end) = got count w
-section_said p w section.Broken = bad section_broken p
+abbrev section_said : ℕ → List ℕ → Option Section → Reading ℕ
+section_said p w (Some s) = got s.count w
+section_said p w None = bad section_broken p
 
 -- A section of the rest is what reading it means.
 section-is : (p : ℕ) (rest : List ℕ) (at most size : ℕ) (v : List ℕ) → v ≡ drop at rest → section_at p 0 most size v ≡ section_said p (drop (at + count_size) rest) (section_of rest at most size)
@@ -74,33 +74,43 @@ section-is p rest at most size (x ∷ y ∷ w) h =
     let f : length rest - at - count_size ≡ length w = omega arith in
     let d : drop (at + count_size) rest ≡ w = sym (drop-drop count_size at rest) ∙ ap (drop count_size) (sym h) in
     rw (le-ltb (length rest - at) count_size (omega arith), q, f, d, le-ltb (of_two x y) 0 (omega arith)) (
-    both (λ a s. a ≡ section_said p w s) (ltb most (of_two x y)) (bad section_broken p) _ section.Broken _ (λ _. refl) λ _.
-    both (λ a s. a ≡ section_said p w s) (ltb (length w) (size * of_two x y)) (bad section_broken p) _ section.Broken _ (λ _. refl) λ _.
+    both (λ a s. a ≡ section_said p w s) (ltb most (of_two x y)) (bad section_broken p) _ None _ (λ _. refl) λ _.
+    both (λ a s. a ≡ section_said p w s) (ltb (length w) (size * of_two x y)) (bad section_broken p) _ None _ (λ _. refl) λ _.
     refl)
 
--- how long the sections after the nodes are
-pub record Fits (rest : List ℕ) (l m c : ℕ) : Type 0 where
-  pub links_few : l ≤ max_links
-  pub names_few : m ≤ max_names
-  pub text_few : c ≤ max_text
-  pub ends : length rest ≡ text_place l m + c
-
 -- A layout that a section leads to is broken there, or has the section whole.
-by-section : {P : Type 0} (rest : List ℕ) (at most size : ℕ) (go : ℕ → ℕ → Layout) {r : Layout} → after_section at (section_of rest at most size) go ≡ r → (Broken at ≡ r → P) → ((count : ℕ) → count ≤ most → at + count_size + size * count ≤ length rest → go count (at + count_size + size * count) ≡ r → P) → P
+by-section : {P : Type 0} (rest : List ℕ) (at most size : ℕ) (go : ℕ → ℕ → Result Layout Broken) {r : Result Layout Broken} → after_section at (section_of rest at most size) go ≡ r → (Err (broken at) ≡ r → P) → ((count : ℕ) → count ≤ most → at + count_size + size * count ≤ length rest → go count (at + count_size + size * count) ≡ r → P) → P
 by-section {P} rest at most size go {r} h b k = with-section (section_of rest at most size) refl h
   where
-    with-section : (s : Section) → section_of rest at most size ≡ s → after_section at s go ≡ r → P
-    with-section (section.Whole count end) e h =
-        let d = section-ended rest at most size count end e in
-        k count d.few (rw (← d.after) d.inside) (rw (← d.after) h)
-    with-section section.Broken e h = b h
+    with-section : (s : Option Section) → section_of rest at most size ≡ s → after_section at s go ≡ r → P
+    with-section (Some s) e h =
+        let d = section-ended rest at most size s.count s.next e in
+        k s.count d.few (rw (← d.after) d.inside) (rw (← d.after) h)
+    with-section None e h = b h
+
+-- what a layout has
+abbrev links_laid : Result Layout Broken → ℕ
+links_laid (Ok a) = a.links
+links_laid (Err b) = 0
+
+abbrev names_laid : Result Layout Broken → ℕ
+names_laid (Ok a) = a.names
+names_laid (Err b) = 0
+
+abbrev text_laid : Result Layout Broken → ℕ
+text_laid (Ok a) = a.text
+text_laid (Err b) = 0
+
+abbrev place_broken : Result Layout Broken → ℕ
+place_broken (Ok a) = 0
+place_broken (Err b) = b.place
 
 -- A layout that is broken is not laid out.
-not-laid : {P : Type 0} {p l m c : ℕ} → Broken p ≡ Laid l m c → P
+not-laid : {P : Type 0} {p l m c : ℕ} → ◌≡◌ {A = Result Layout Broken} (Err (broken p)) (Ok (layout l m c)) → P
 not-laid h = let z : ◌≡◌ {A = ℕ} 0 1 = cc in absurd (omega arith)
 
 -- Sections that are laid out are within their limits and end where the rest does.
-pub layout-fits : (rest : List ℕ) (l m c : ℕ) → layout_at rest ≡ Laid l m c → Fits rest l m c
+pub layout-fits : (rest : List ℕ) (l m c : ℕ) → layout_at rest ≡ Ok (layout l m c) → Fits rest l m c
 unfolding layout_at
 layout-fits rest l m c h =
     by-section rest 0 max_links link_size _ h (λ b. not-laid b) λ l' f i h.
@@ -109,11 +119,11 @@ layout-fits rest l m c h =
     cases (ltb (text_place l' m' + 1 * c') (length rest))
     (λ t. not-laid (rw t at h))
     λ t. let g = rw t at h in
-    let p : l' ≡ l = cc in let q : m' ≡ m = cc in let r : c' ≡ c = cc in
+    let p = ap links_laid g in let q = ap names_laid g in let r = ap text_laid g in
     record { links_few = omega arith; names_few = omega arith; text_few = omega arith; ends = omega (arith, facts) }
 
 -- A broken layout is broken near the front.
-pub layout-near : (rest : List ℕ) (p : ℕ) → layout_at rest ≡ Broken p → p ≤ text_place max_links max_names + max_text
+pub layout-near : (rest : List ℕ) (p : ℕ) → layout_at rest ≡ Err (broken p) → p ≤ text_place max_links max_names + max_text
 unfolding layout_at
 layout-near rest p h =
     by-section rest 0 max_links link_size _ h (λ b. at 0 b (omega arith)) λ l f i h.
@@ -123,8 +133,8 @@ layout-near rest p h =
     (λ t. at (text_place l m + 1 * c) (rw t at h) (omega arith))
     λ t. not-laid (sym (rw t at h))
   where
-    at : (q : ℕ) → Broken q ≡ Broken p → q ≤ text_place max_links max_names + max_text → p ≤ text_place max_links max_names + max_text
-    at q e k = let z : q ≡ p = cc in omega arith
+    at : (q : ℕ) → ◌≡◌ {A = Result Layout Broken} (Err (broken q)) (Err (broken p)) → q ≤ text_place max_links max_names + max_text → p ≤ text_place max_links max_names + max_text
+    at q e k = let z = ap place_broken e in omega arith
 
 -- A node's entry, and those after it.
 nodes-step : (c : ℕ) (w : List ℕ) → 2 ≤ length w → nodes_in (suc c) w ≡ node_at w 0 ∷ nodes_in c (drop node_size w)
@@ -337,51 +347,54 @@ module _ (ns : List Meant.Node) (n : ℕ) where
 
   module _ (rest : List ℕ) where
     -- what a layout of the rest says of the table
-    abbrev laid_said : Layout → Reading Table
-    laid_said (Laid l m c) = check_table (record { nodes = ns; links = links_in l (drop count_size rest); names = names_in m (drop (name_place l 0) rest); text = drop (text_place l m) rest })
-    laid_said (Broken p) = bad section_broken (links_place n + p)
+    abbrev laid_said : Result Layout Broken → Reading Table
+    laid_said (Ok a) = check_table (record { nodes = ns; links = links_in a.links (drop count_size rest); names = names_in a.names (drop (name_place a.links 0) rest); text = drop (text_place a.links a.names) rest })
+    laid_said (Err b) = bad section_broken (links_place n + b.place)
 
     -- the layout from the text's count on, from the names' and from the links'
-    abbrev lay_text : ℕ → ℕ → ℕ → ℕ → Layout
-    lay_text l m c end = ltb end (length rest) ⇒ Broken end ∣ λ _. Laid l m c
+    abbrev lay_text : ℕ → ℕ → ℕ → ℕ → Result Layout Broken
+    lay_text l m c end = ltb end (length rest) ⇒ Err (broken end) ∣ λ _. Ok (layout l m c)
 
-    abbrev lay_names : ℕ → ℕ → ℕ → Layout
+    abbrev lay_names : ℕ → ℕ → ℕ → Result Layout Broken
     lay_names l m third = after_section third (section_of rest third max_text 1) (lay_text l m)
 
-    abbrev lay_links : ℕ → ℕ → Layout
+    abbrev lay_links : ℕ → ℕ → Result Layout Broken
     lay_links l second = after_section second (section_of rest second max_names name_size) (lay_names l)
 
     -- The text's section is what reading it means.
-    text-said : (l m : ℕ) (s : Section) → section_of rest (name_place l m) max_text 1 ≡ s
+    text-said : (l m : ℕ) (s : Option Section) → section_of rest (name_place l m) max_text 1 ≡ s
         → next (section_said (Reads.text_place n l m) (drop (text_place l m) rest) s) (after_text l m (drop count_size rest) (drop (name_place l 0) rest)) ≡ laid_said (after_section (name_place l m) s (lay_text l m))
     unfolding next ended
-    text-said l m (section.Whole c end) h =
+    text-said l m (Some s) h =
+        let c = s.count in let end = s.next in
         let d = section-ended rest (name_place l m) max_text 1 c end h in
         let k = length-drop (text_place l m) rest in
         cases (ltb end (length rest))
         (λ t. let p : Reads.text_place n l m + count_size + c ≡ links_place n + end = omega arith in rw (t, lt-ltb c (length (drop (text_place l m) rest)) (omega (arith, facts))) (ap (bad section_broken) p))
         λ t. rw (t, le-ltb c (length (drop (text_place l m) rest)) (omega (arith, facts)))
-    text-said l m section.Broken h = let p : Reads.text_place n l m ≡ links_place n + name_place l m = omega arith in ap (bad section_broken) p
+    text-said l m None h = let p : Reads.text_place n l m ≡ links_place n + name_place l m = omega arith in ap (bad section_broken) p
 
     -- So is the names', and what follows.
-    names-said : (l : ℕ) (s : Section) → section_of rest (link_place l) max_names name_size ≡ s
+    names-said : (l : ℕ) (s : Option Section) → section_of rest (link_place l) max_names name_size ≡ s
         → next (section_said (names_place n l) (drop (name_place l 0) rest) s) (after_names l (drop count_size rest)) ≡ laid_said (after_section (link_place l) s (lay_names l))
     unfolding next
-    names-said l (section.Whole m third) h =
+    names-said l (Some s) h =
+        let m = s.count in let third = s.next in
         let d = section-ended rest (link_place l) max_names name_size m third h in
         let q : name_place l 0 + name_size * m ≡ name_place l m = omega arith in
         rw (d.after, section-is (Reads.text_place n l m) rest (name_place l m) max_text 1 _ (drop-drop (name_size * m) (name_place l 0) rest ∙ ap (λ (i : ℕ). drop i rest) q)) (text-said l m _ refl)
-    names-said l section.Broken h = let p : names_place n l ≡ links_place n + link_place l = omega arith in ap (bad section_broken) p
+    names-said l None h = let p : names_place n l ≡ links_place n + link_place l = omega arith in ap (bad section_broken) p
 
     -- So is the links', and what follows.
-    links-said : (s : Section) → section_of rest 0 max_links link_size ≡ s
+    links-said : (s : Option Section) → section_of rest 0 max_links link_size ≡ s
         → next (section_said (links_place n) (drop count_size rest) s) after_links ≡ laid_said (after_section 0 s lay_links)
     unfolding next
-    links-said (section.Whole l second) h =
+    links-said (Some s) h =
+        let l = s.count in let second = s.next in
         let d = section-ended rest 0 max_links link_size l second h in
         let z : second ≡ link_place l = omega arith in let y : link_place l + count_size ≡ name_place l 0 = omega arith in
         rw (z, section-is (names_place n l) rest (link_place l) max_names name_size _ (drop-drop (link_size * l) count_size rest), y) (names-said l _ refl)
-    links-said section.Broken h = let p : links_place n ≡ links_place n + 0 = omega arith in ap (bad section_broken) p
+    links-said None h = let p : links_place n ≡ links_place n + 0 = omega arith in ap (bad section_broken) p
 
 module _ (nodes rest : List ℕ) (n : ℕ) (whole : length nodes ≡ node_size * n) (some : 1 ≤ n) (few : n ≤ max_nodes) where
   -- The nodes' section is there.
@@ -398,11 +411,11 @@ module _ (nodes rest : List ℕ) (n : ℕ) (whole : length nodes ≡ node_size *
       ∙ ap (λ (ns : List Meant.Node). laid_said ns n rest (layout_at rest)) (nodes-front n nodes rest (omega arith)))
 
   -- A broken section, or bytes left over, are refused at their place.
-  pub sections-broken : (p : ℕ) → layout_at rest ≡ Broken p → read_table (two_bytes n ++ (nodes ++ rest)) ≡ bad section_broken (links_place n + p)
+  pub sections-broken : (p : ℕ) → layout_at rest ≡ Err (broken p) → read_table (two_bytes n ++ (nodes ++ rest)) ≡ bad section_broken (links_place n + p)
   sections-broken p h = sections-said ∙ ap (laid_said (nodes_in n nodes) n rest) h
 
   -- Any other table is checked.
-  pub sections-laid : (l m c : ℕ) → layout_at rest ≡ Laid l m c → read_table (two_bytes n ++ (nodes ++ rest)) ≡ check_table (table_in nodes rest n l m)
+  pub sections-laid : (l m c : ℕ) → layout_at rest ≡ Ok (layout l m c) → read_table (two_bytes n ++ (nodes ++ rest)) ≡ check_table (table_in nodes rest n l m)
   sections-laid l m c h = sections-said ∙ ap (laid_said (nodes_in n nodes) n rest) h
 
 -- The first section breaks a table where it is broken.

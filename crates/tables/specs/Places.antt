@@ -1,6 +1,6 @@
 -- NOT TO BE BELIEVED: proved to be what reading a table means (proofs/Whole.antt). 01-scope.md, "Node table", once more, as the code goes: by
 -- places in the bytes of the nodes and in the rest of the table, from the links' count on.
-use Rattle.std.specs.Prelude.{ℕ, zero, suc, ◌+◌, ◌*◌, ◌-◌, ◌≤◌, ◌<◌, List, ◌∷◌, ◌++◌, Bool, true, false, not, ◌&&◌, ltb, leb, eqb, length, get_or, drop}
+use Rattle.std.specs.Prelude.{ℕ, zero, suc, ◌+◌, ◌*◌, ◌-◌, ◌≤◌, ◌<◌, ◌≡◌, List, ◌∷◌, ◌++◌, Bool, true, false, not, ◌&&◌, ltb, leb, eqb, length, get_or, drop, Option, Some, None, Result, Ok, Err}
 use Rattle.std.proofs.Math.Seq.{slice}
 use Rattle.meaning.specs.Rules.{◌⇒◌∣◌}
 use Rattle.meaning.specs.Limits.{max_nodes, max_links, max_names, max_text}
@@ -11,9 +11,8 @@ use Rattle.meaning.specs.Table as Meant
 use Rattle.meaning.specs.Table.{array_kind, map_kind, record_kind, function_kind, symbol_kind, variable_kind}
 use Rattle.meaning.specs.TableReading.{node_size, link_size, name_size, nodes_in, links_in, names_in}
 use Rattle.tables.specs.declared.Section.{Section}
-use Rattle.tables.specs.declared.Section.TheVariants as section
 use Rattle.tables.specs.declared.Layout.{Layout}
-use Rattle.tables.specs.declared.Layout.TheVariants as layout
+use Rattle.tables.specs.declared.Broken.{Broken}
 use Rattle.tables.specs.declared.Node.{Node}
 use Rattle.tables.specs.declared.Link.{Link}
 use Rattle.tables.specs.declared.Name.{Name}
@@ -30,26 +29,47 @@ name_place links k = link_place links + count_size + name_size * k
 abbrev pub text_place : ℕ → ℕ → ℕ
 text_place links names = name_place links names + count_size
 
--- the section whose count stands at a place
-unfoldable pub section_of : List ℕ → ℕ → ℕ → ℕ → Section
-section_of rest at most size =
-    ltb (length rest - at) count_size ⇒ section.Broken ∣ λ _.
-    ltb most (number_at rest at) ⇒ section.Broken ∣ λ _.
-    ltb (length rest - at - count_size) (size * number_at rest at) ⇒ section.Broken ∣ λ _.
-    section.Whole (number_at rest at) (at + count_size + size * number_at rest at)
+-- a section of so many entries with the place after them, so many links, names and bytes of text, and a broken place
+abbrev pub section : ℕ → ℕ → Section
+section count next = record { count = count; next = next }
 
-abbrev pub after_section : ℕ → Section → (ℕ → ℕ → Layout) → Layout
-after_section at (section.Whole count next) go = go count next
-after_section at section.Broken go = layout.Broken at
+abbrev pub layout : ℕ → ℕ → ℕ → Layout
+layout links names text = record { links = links; names = names; text = text }
+
+abbrev pub broken : ℕ → Broken
+broken place = record { place = place }
+
+-- the section whose count stands at a place
+unfoldable pub section_of : List ℕ → ℕ → ℕ → ℕ → Option Section
+section_of rest at most size =
+    ltb (length rest - at) count_size ⇒ None ∣ λ _.
+    ltb most (number_at rest at) ⇒ None ∣ λ _.
+    ltb (length rest - at - count_size) (size * number_at rest at) ⇒ None ∣ λ _.
+    Some (section (number_at rest at) (at + count_size + size * number_at rest at))
+
+abbrev pub after_section : ℕ → Option Section → (ℕ → ℕ → Result Layout Broken) → Result Layout Broken
+after_section at (Some s) go = go s.count s.next
+after_section at None go = Err (broken at)
 
 -- the sections after the nodes
-unfoldable pub layout_at : List ℕ → Layout
+unfoldable pub layout_at : List ℕ → Result Layout Broken
 layout_at rest =
     after_section 0 (section_of rest 0 max_links link_size) λ links second.
     after_section second (section_of rest second max_names name_size) λ names third.
     after_section third (section_of rest third max_text 1) λ text end.
-    ltb end (length rest) ⇒ layout.Broken end ∣ λ _.
-    layout.Laid links names text
+    ltb end (length rest) ⇒ Err (broken end) ∣ λ _.
+    Ok (layout links names text)
+
+-- how long the sections after the nodes are
+pub record Fits (rest : List ℕ) (links names text : ℕ) : Type 0 where
+  pub links_few : links ≤ max_links
+  pub names_few : names ≤ max_names
+  pub text_few : text ≤ max_text
+  pub ends : length rest ≡ text_place links names + text
+
+-- a table in bytes, of so many nodes
+abbrev pub whole : ℕ → List ℕ → List ℕ → List ℕ
+whole count nodes rest = two_bytes count ++ (nodes ++ rest)
 
 -- the table that so many nodes and the rest are
 abbrev pub table_in : List ℕ → List ℕ → ℕ → ℕ → ℕ → Meant.Table
@@ -141,3 +161,16 @@ first_bad_name rest links names text zero k = k
 first_bad_name rest links names text (suc c) k =
     good_name rest links names text (name_at rest links k) ⇒ first_bad_name rest links names text c (suc k) ∣ λ _.
     k
+
+-- the first of so many that is broken, where it is one of them: the search ends at the count where none is
+abbrev pub found_below : ℕ → ℕ → Option ℕ
+found_below count i = ltb i count ⇒ Some i ∣ λ _. None
+
+-- the nodes and the rest of a table that passed its checks, of so many nodes, links and names
+pub record Sound (nodes rest : List ℕ) (count links names : ℕ) : Type 0 where
+  pub whole : length nodes ≡ node_size * count
+  pub some : 1 ≤ count
+  pub few : count ≤ max_nodes
+  pub fits : Fits rest links names (length rest - text_place links names)
+  pub nodes_good : first_bad_node nodes rest links names count 0 ≡ count
+  pub names_good : first_bad_name rest links names (length rest - text_place links names) names 0 ≡ names

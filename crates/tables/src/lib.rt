@@ -1,16 +1,19 @@
-// The checks of a node table, in place (01-scope.md, "Node table"). The bytes of the nodes and the rest, from the links' count on, come as two
-// slices, so that a caller may have the nodes elsewhere.
+// The checks of a node table, in place (01-scope.md, "Node table"), and a table that passed them. The bytes of the nodes and the rest, from the links'
+// count on, come as two slices, so that a caller may have the nodes elsewhere.
 #![tactic(auto)]
 
-ghost use Rattle.std.specs.Prelude.{◌≡◌, ◌≤◌, ◌<◌, ◌+◌, ◌*◌, length};
+ghost use Rattle.std.specs.Prelude.{◌≡◌, ◌≤◌, ◌<◌, ◌+◌, ◌*◌, [], length, MatchResult};
+ghost use Rattle.leaves.specs.Faults.{number_of};
 ghost use Rattle.meaning.specs.Limits.{max_nodes, max_links, max_names, max_text};
-ghost use Rattle.meaning.specs.TableReading.{node_size, link_size, name_size};
+ghost use Rattle.meaning.specs.Reading.{got, bad};
+ghost use Rattle.meaning.specs.TableReading.{node_size, link_size, name_size, read_table};
 ghost use Rattle.buffers.specs.Written.{written};
-ghost use Rattle.tables.specs.Places.{node_bytes, link_place, name_place, text_place, section_of, layout_at, node_said, node_at, link_said, link_at, target_kind, Aimed, name_said, name_at, good_by, good_from, good_span, good_at, first_bad_node, first_bad_name};
+ghost use Rattle.tables.specs.Places.{node_bytes, link_place, name_place, text_place, section_of, layout_at, table_in, whole, node_said, node_at, link_said, link_at, target_kind, Aimed, name_said, name_at, good_by, good_from, good_span, good_at, first_bad_node, first_bad_name, found_below, Sound};
 
 use buffers::{put_byte, put_two};
 use leaves::COUNT_SIZE;
 use leaves::limits::{MAX_LINKS, MAX_NAMES, MAX_TEXT};
+use leaves::refusals::{Fault, Refusal};
 
 // The bytes of a node, of a link and of a name.
 pub const NODE_SIZE: usize = 6;
@@ -32,79 +35,66 @@ pub const SYMBOL: u8 = 9;
 
 pub const VARIABLE: u8 = 10;
 
-// A section: how many entries it has, and the place after them; or it is broken.
+// A section that is whole: how many entries it has, and the place after them.
 #[derive(Clone, Copy)]
-pub enum Section {
-    Whole { count: usize, next: usize },
-    Broken,
+pub struct Section {
+    pub count: usize,
+    pub next: usize,
 }
 
-// The section whose count stands at a place, of entries of so many bytes, at most so many.
-fn section_at(rest: &[u8], at: usize, most: usize, size: usize) -> Section
+// The section whose count stands at a place, of entries of so many bytes, at most so many; None where it is broken.
+fn section_at(rest: &[u8], at: usize, most: usize, size: usize) -> Option<Section>
     requires { (at ≤ length rest.now) × (size ≤ 6) }
     ensures { result ≡ section_of rest.now at most size }
 {
     if rest.len() - at < COUNT_SIZE {
-        return Section::Broken;
+        return None;
     }
     let count = leaves::two_at(rest, at);
-    if most < count {
-        return Section::Broken;
+    if most < count || rest.len() - at - COUNT_SIZE < size * count {
+        return None;
     }
-    if rest.len() - at - COUNT_SIZE < size * count {
-        return Section::Broken;
-    }
-    Section::Whole {
+    Some(Section {
         count,
         next: at + COUNT_SIZE + size * count,
-    }
+    })
 }
 
-// How many links, names and bytes of text a table has, or the place in the rest where a section is broken or bytes are left over.
+// How many links, names and bytes of text a table has.
 #[derive(Clone, Copy)]
-pub enum Layout {
-    Laid {
-        links: usize,
-        names: usize,
-        text: usize,
-    },
-    Broken {
-        place: usize,
-    },
+pub struct Layout {
+    pub links: usize,
+    pub names: usize,
+    pub text: usize,
+}
+
+// The place in the rest where a section is broken, or bytes are left over.
+#[derive(Clone, Copy)]
+pub struct Broken {
+    pub place: usize,
 }
 
 // The sections after the nodes.
-pub fn layout_of(rest: &[u8]) -> Layout
+pub fn layout_of(rest: &[u8]) -> Result<Layout, Broken>
     ensures { result ≡ layout_at rest.now }
 {
-    match section_at(rest, 0, MAX_LINKS, LINK_SIZE) {
-        Section::Broken => Layout::Broken { place: 0 },
-        Section::Whole {
-            count: links,
-            next: second,
-        } => {
-            match section_at(rest, second, MAX_NAMES, NAME_SIZE) {
-                Section::Broken => Layout::Broken { place: second },
-                Section::Whole {
-                    count: names,
-                    next: third,
-                } => {
-                    match section_at(rest, third, MAX_TEXT, 1) {
-                        Section::Broken => Layout::Broken { place: third },
-                        Section::Whole {
-                            count: text,
-                            next: end,
-                        } => {
-                            if end < rest.len() {
-                                return Layout::Broken { place: end };
-                            }
-                            Layout::Laid { links, names, text }
-                        }
-                    }
-                }
-            }
-        }
+    let Some(links) = section_at(rest, 0, MAX_LINKS, LINK_SIZE) else {
+        return Err(Broken { place: 0 });
+    };
+    let Some(names) = section_at(rest, links.next, MAX_NAMES, NAME_SIZE) else {
+        return Err(Broken { place: links.next });
+    };
+    let Some(text) = section_at(rest, names.next, MAX_TEXT, 1) else {
+        return Err(Broken { place: names.next });
+    };
+    if text.next < rest.len() {
+        return Err(Broken { place: text.next });
     }
+    Ok(Layout {
+        links: links.count,
+        names: names.count,
+        text: text.count,
+    })
 }
 
 // A node, its second byte too.
@@ -155,9 +145,7 @@ pub fn target_kind(nodes: &[u8], rest: &[u8], x: usize) -> u8
     requires { (link_place x + link_size ≤ length rest.now) × (x < 65536) × Aimed nodes.now rest.now x }
     ensures { result ≡ target_kind nodes.now rest.now x }
 {
-    let link = link_at(rest, x);
-    let node = node_at(nodes, link.target);
-    node.kind
+    node_at(nodes, link_at(rest, x).target).kind
 }
 
 // A name: where it starts in the text, and how long it is.
@@ -204,13 +192,8 @@ fn good_run(rest: &[u8], way: Way, i: usize, links: usize, names: usize, a: usiz
     requires { (a + b ≤ links) × (links ≤ max_links) × (link_place links ≤ length rest.now) }
     ensures { result ≡ good_from rest.now way i names a b }
 {
-    let mut x = a;
-    let mut due = b;
-    while 0 < due {
-        due -= 1;
-        if good_link(way, i, names, link_at(rest, x)) {
-            x += 1;
-        } else {
+    for x in a..a + b {
+        if !good_link(way, i, names, link_at(rest, x)) {
             return false;
         }
     }
@@ -230,10 +213,7 @@ fn good_links(
     requires { (a < 65536) × (b < 65536) × (links ≤ max_links) × (link_place links ≤ length rest.now) }
     ensures { result ≡ good_span rest.now way i links names a b }
 {
-    if links < a + b {
-        return false;
-    }
-    good_run(rest, way, i, links, names, a, b)
+    a + b <= links && good_run(rest, way, i, links, names, a, b)
 }
 
 // Whether a node that stands at the index i is good.
@@ -241,62 +221,38 @@ fn good_node(rest: &[u8], links: usize, names: usize, i: usize, node: Node) -> b
     requires { (node.a < 65536) × (node.b < 65536) × (links ≤ max_links) × (link_place links ≤ length rest.now) }
     ensures { result ≡ good_at rest.now links names i (node_said node) }
 {
-    let kind = node.kind;
     let a = node.a;
     let b = node.b;
-    if node.second != 0 {
-        return false;
-    }
-    if kind < ARRAY {
-        if a == 0 {
-            return b == 0;
+    node.second == 0
+        && match node.kind {
+            0..ARRAY => a == 0 && b == 0,
+            ARRAY => b == 1 && good_links(rest, Way::Bare, i, links, names, a, b),
+            MAP => b == 2 && good_links(rest, Way::Bare, i, links, names, a, b),
+            RECORD => good_links(rest, Way::Named, i, links, names, a, b),
+            FUNCTION => 1 <= b && good_links(rest, Way::Bare, i, links, names, a, b),
+            SYMBOL => good_links(rest, Way::Texts, i, links, names, a, b),
+            VARIABLE => b == 0,
+            _ => false,
         }
-        return false;
-    }
-    if kind == ARRAY {
-        if b == 1 {
-            return good_links(rest, Way::Bare, i, links, names, a, b);
-        }
-        return false;
-    }
-    if kind == MAP {
-        if b == 2 {
-            return good_links(rest, Way::Bare, i, links, names, a, b);
-        }
-        return false;
-    }
-    if kind == RECORD {
-        return good_links(rest, Way::Named, i, links, names, a, b);
-    }
-    if kind == FUNCTION {
-        if 1 <= b {
-            return good_links(rest, Way::Bare, i, links, names, a, b);
-        }
-        return false;
-    }
-    if kind == SYMBOL {
-        return good_links(rest, Way::Texts, i, links, names, a, b);
-    }
-    if kind == VARIABLE {
-        return b == 0;
-    }
-    false
 }
 
-// The first node that is broken; how many there are, where none is.
-pub fn bad_node(nodes: &[u8], rest: &[u8], count: usize, links: usize, names: usize) -> usize
+// The first node that is broken, if one is.
+pub fn bad_node(
+    nodes: &[u8],
+    rest: &[u8],
+    count: usize,
+    links: usize,
+    names: usize,
+) -> Option<usize>
     requires { (node_size * count ≤ length nodes.now) × (count ≤ max_nodes) × (links ≤ max_links) × (link_place links ≤ length rest.now) }
-    ensures { result ≡ first_bad_node nodes.now rest.now links names count 0 }
+    ensures { result ≡ found_below count (first_bad_node nodes.now rest.now links names count 0) }
 {
-    let mut i = 0;
-    while i < count {
-        if good_node(rest, links, names, i, node_at(nodes, i)) {
-            i += 1;
-        } else {
-            return i;
+    for i in 0..count {
+        if !good_node(rest, links, names, i, node_at(nodes, i)) {
+            return Some(i);
         }
     }
-    i
+    None
 }
 
 // Where the text starts in the rest, after so many links and names.
@@ -307,28 +263,92 @@ pub fn text_from(links: usize, names: usize) -> usize
     COUNT_SIZE + LINK_SIZE * links + COUNT_SIZE + NAME_SIZE * names + COUNT_SIZE
 }
 
-// The first name that is broken; how many there are, where none is.
-pub fn bad_name(rest: &[u8], links: usize, names: usize, text: usize) -> usize
+// The first name that is broken, if one is.
+pub fn bad_name(rest: &[u8], links: usize, names: usize, text: usize) -> Option<usize>
     requires { (links ≤ max_links) × (names ≤ max_names) × (text ≤ max_text) × (text_place links names + text ≤ length rest.now) }
-    ensures { result ≡ first_bad_name rest.now links names text names 0 }
+    ensures { result ≡ found_below names (first_bad_name rest.now links names text names 0) }
 {
     let from = text_from(links, names);
-    let mut k = 0;
-    while k < names {
+    for k in 0..names {
         let name = name_at(rest, links, k);
         let start = name.start;
         let size = name.size;
         if text < start + size {
-            return k;
+            return Some(k);
         }
         let first = from + start;
-        if leaves::well_formed_to(rest, first + size, first) == first + size {
-            k += 1;
-        } else {
-            return k;
+        if leaves::well_formed_to(&rest[..first + size], first) != first + size {
+            return Some(k);
         }
     }
-    k
+    None
+}
+
+// A table that passed its checks: so many nodes, links and names.
+#[derive(Clone, Copy)]
+pub struct Table<'a> {
+    pub nodes: &'a [u8],
+    pub rest: &'a [u8],
+    pub count: usize,
+    pub links: usize,
+    pub names: usize,
+    ghost sound: { Sound nodes.now rest.now count links names },
+}
+
+impl<'a> Table<'a> {
+    // Reads a table whose first section is so many nodes: its other sections are checked first, then its nodes, then its names.
+    pub fn read(nodes: &'a [u8], rest: &'a [u8], count: usize) -> Result<Table<'a>, Refusal>
+        requires { (length nodes.now ≡ node_size * count) × (1 ≤ count) × (count ≤ max_nodes) }
+        ensures { MatchResult result (λ t. (t.nodes.now ≡ nodes.now) × (t.rest.now ≡ rest.now) × (t.count ≡ count) × (read_table (whole count nodes.now rest.now) ≡ got (table_in nodes.now rest.now count t.links t.names) [])) (λ r. read_table (whole count nodes.now rest.now) ≡ bad (number_of r.fault) r.place) }
+    {
+        let layout = match layout_of(rest) {
+            Ok(layout) => layout,
+            Err(broken) => {
+                return Err(Refusal {
+                    fault: Fault::SectionBroken,
+                    place: COUNT_SIZE + NODE_SIZE * count + broken.place,
+                });
+            }
+        };
+        let links = layout.links;
+        let names = layout.names;
+        if let Some(node) = bad_node(nodes, rest, count, links, names) {
+            return Err(Refusal {
+                fault: Fault::NodeBroken,
+                place: node,
+            });
+        }
+        if let Some(name) = bad_name(rest, links, names, layout.text) {
+            return Err(Refusal {
+                fault: Fault::NameBroken,
+                place: name,
+            });
+        }
+        Ok(Table {
+            nodes,
+            rest,
+            count,
+            links,
+            names,
+        })
+    }
+
+    // Node i.
+    pub fn node(&self, i: usize) -> Node
+        requires { i < self.now.count }
+        ensures is { node_said result ≡ node_at self.now.nodes.now i }
+        ensures small { (result.a < 65536) × (result.b < 65536) }
+    {
+        node_at(self.nodes, i)
+    }
+
+    // Link x.
+    pub fn link(&self, x: usize) -> Link
+        requires { x < self.now.links }
+        ensures { link_said result ≡ link_at self.now.rest.now x }
+    {
+        link_at(self.rest, x)
+    }
 }
 
 // A node's six bytes, the second of which is zero.

@@ -33,11 +33,12 @@ use Rattle.byte_steps.specs.declared.Took.{Took}
 use Rattle.turns.specs.declared.moves.Act.{Act}
 use Rattle.turns.specs.declared.moves.Act.TheVariants.{Rest, Stay, Push, Pop}
 use Rattle.turns.specs.declared.moves.Moved.{Moved}
-use Rattle.items.specs.declared.Item.TheVariants.{Whole}
+use Rattle.std.specs.Prelude.{Ok}
+use Rattle.items.specs.declared.Item.{Item}
 use Rattle.items.specs.declared.Run as Taken
-use Rattle.byte_steps.specs.Automaton.{taken, entered, step, fed, run, after_child, with_due, text_done, settle}
+use Rattle.byte_steps.specs.Automaton.{bare, named, taken, entered, step, fed, run, after_child, with_due, text_done, settle}
 use Rattle.turns.specs.Moves.{resting, sized, between_moved, opening_moved}
-use Rattle.items.specs.Fed.{bare, named, item_mode, WindowEnd, ShapeFed, RunFed}
+use Rattle.items.specs.Fed.{item_mode, WindowEnd, ShapeFed, RunFed}
 use Rattle.turns.specs.Leads.{idle, counted_to, turned, stayed, rested, waited, onward, Lighter, Leads}
 use Rattle.items.proofs.Inside.{letters-on, letters-out}
 use Rattle.turns.proofs.Moving.{enter-rest, Moves, Lights, Light, between-moves, opening-moves, between-light, opening-light, weight-most, go_on, fair-taken, fed-over, done_ok}
@@ -182,11 +183,11 @@ at_level n P h f [] e = absurd (omega arith)
 at_level n P h f (l ∷ ls) e = f l ls e
 
 module _ {s : List ℕ} {i : ℕ} {top : Level} {n count whole deepest end fault : ℕ} (window : WindowEnd (length s) i top.stop count end) (some : 0 < n) where
-  pub shape-leads : (next deep : ℕ) → n ≤ max_levels → ShapeFed s end i n deepest (Whole next deep) → Leads s i Head top n count whole deepest (stayed Between (after_child top (get_or s i 0)) (count + (next - i)) whole deep next fault)
+  pub shape-leads : (item : Item) → n ≤ max_levels → ShapeFed s end i n deepest (Ok item) → Leads s i Head top n count whole deepest (stayed Between (after_child top (get_or s i 0)) (count + (item.next - i)) whole item.deepest item.next fault)
   unfolding entered
-  shape-leads next deep k h =
-      stay-leads Between (after_child top (get_or s i 0)) (count + (next - i)) deep next refl h.0 (omega (arith, h.1, window.within)) (omega arith)
-      (at_level n (λ stack. fed (run stack top Head count whole deepest) (drop i s) ≡ fed (settle stack (after_child top (get_or s i 0)) (count + (next - i)) whole deep) (drop next s)) some
+  shape-leads item k h =
+      stay-leads Between (after_child top (get_or s i 0)) (count + (item.next - i)) item.deepest item.next refl h.0 (omega (arith, h.1, window.within)) (omega arith)
+      (at_level n (λ stack. fed (run stack top Head count whole deepest) (drop i s) ≡ fed (settle stack (after_child top (get_or s i 0)) (count + (item.next - i)) whole item.deepest) (drop item.next s)) some
       λ l ls e. h.2 l ls top count whole e (window.inside (omega (arith, h.0, h.1))) window.few)
 
   pub items-leads : (m : Mode) (r : Taken.Run) → m ≡ item_mode top.items → resting m ≡ true → n + sized m ≤ max_levels → RunFed top.items s end i n top.due deepest r → i < r.i

@@ -25,8 +25,8 @@ use Rattle.payloads.specs.declared.first.First.TheVariants as By
 use Rattle.byte_steps.specs.declared.modes.Items.{Items}
 use Rattle.byte_steps.specs.declared.modes.Items.TheVariants.{Plain, Bare, Fields, Texts}
 use Rattle.byte_steps.specs.declared.modes.Level.{Level}
-use Rattle.byte_steps.specs.declared.Char.{Char}
-use Rattle.byte_steps.specs.declared.Char.TheVariants.{Wrong, Goes}
+use Rattle.std.specs.Prelude.{Option, Some, None}
+use Rattle.byte_steps.specs.declared.Asked.{Asked}
 use Rattle.byte_steps.specs.declared.modes.Mode.{Mode}
 use Rattle.byte_steps.specs.declared.modes.Mode.TheVariants.{Head, SizeLow, SizeHigh, Opening, Count, CountMore, Length, LengthMore, Letters, BlankLow, BlankHigh, Between, Done, Faulty}
 use Rattle.turns.specs.declared.moves.Act.{Act}
@@ -227,10 +227,10 @@ first-ok top n deepest at b (By.Long kind) h =
     rule (λ (t : Took). Ok n t.mode) (leb max_levels n) _ _ (λ _. calm n h refl) λ p.
     rule (λ (t : Took). Ok n t.mode) (ltb top.stop (at + 3)) _ _ (λ _. calm n h refl) λ _. record { room = omega (arith, leb-false max_levels n p) }
 
-letter-ok : (top : Level) (n from left next : ℕ) (c : Char) → n ≤ max_levels → Ok n (text_taken top from left next c)
+letter-ok : (top : Level) (n from left next : ℕ) (c : Option Asked) → n ≤ max_levels → Ok n (text_taken top from left next c)
 unfolding text_taken
-letter-ok top n from left next Wrong h = calm n h refl
-letter-ok top n from left next (Goes more low high) h = rule (Ok n) (leb left 1) _ _ (λ _. rule (Ok n) (eqb more 0) _ _ (λ _. done_ok n top.items top next h) (λ _. calm n h refl)) (λ _. calm n h refl)
+letter-ok top n from left next None h = calm n h refl
+letter-ok top n from left next (Some c) h = rule (Ok n) (leb left 1) _ _ (λ _. rule (Ok n) (eqb c.more 0) _ _ (λ _. done_ok n top.items top next h) (λ _. calm n h refl)) (λ _. calm n h refl)
 
 taken-ok : (m : Mode) (top : Level) (n deepest at b : ℕ) → n + sized m ≤ max_levels → Ok n (taken m top n deepest at b).mode
 unfolding taken size_taken count_taken count_more length_taken length_more blank_taken

@@ -8,6 +8,7 @@ use Rattle.byte_steps.specs.declared.modes.Mode.TheVariants.{Head, SizeLow, Size
 use Rattle.turns.specs.declared.moves.Act.{Act}
 use Rattle.turns.specs.declared.moves.Act.TheVariants.{Rest, Stay, Push, Pop}
 use Rattle.turns.specs.declared.Turned.{Turned}
+use Rattle.items.specs.declared.Run as Taken
 use Rattle.byte_steps.specs.Automaton.{Run, entered, fed}
 use Rattle.turns.specs.Moves.{resting, sized}
 
@@ -35,6 +36,10 @@ counted_to count more = ltb (max_bytes - count) more ⇒ max_bytes + 1 ∣ λ _.
 -- what a turn leads to; where a fault was met is nowhere said more of: it only saves time
 abbrev pub turned : Mode → Level → ℕ → ℕ → ℕ → ℕ → ℕ → Act → Turned
 turned m l count whole deepest i fault act = record { mode = m; top = l; count = count; whole = whole; deepest = deepest; i = i; fault = fault; act = act }
+
+-- no item of a list is taken yet
+abbrev pub run_from : ℕ → ℕ → ℕ → ℕ → Taken.Run
+run_from i due deepest fault = record { i = i; due = due; deepest = deepest; fault = fault }
 
 -- the levels laid by stay
 abbrev pub stayed : Mode → Level → ℕ → ℕ → ℕ → ℕ → ℕ → Turned

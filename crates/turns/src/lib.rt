@@ -3,19 +3,19 @@
 
 pub mod moves;
 
-ghost use Rattle.std.specs.Prelude.{◌≡◌, true, false, ◌+◌, ◌-◌, ◌<◌, ◌≤◌, length};
+ghost use Rattle.std.specs.Prelude.{◌≡◌, ◌+◌, ◌-◌, ◌<◌, ◌≤◌, length};
 ghost use Rattle.byte_steps.specs.Automaton.{with_due};
 ghost use Rattle.turns.specs.Moves.{sized};
-ghost use Rattle.turns.specs.Leads.{Leads, counted_to, rested, stayed, turned, waited};
+ghost use Rattle.turns.specs.Leads.{Leads, counted_to, rested, run_from, stayed, turned, waited};
 ghost use Rattle.meaning.specs.Limits.{max_bytes, max_levels};
 ghost use Rattle.byte_steps.specs.declared.modes.Mode.TheVariants.{Head, Length, Letters};
 
-use byte_steps::modes::{BYTES, Level, Mode, larger, with_due};
+use byte_steps::modes::{BYTES, Level, Mode};
 use byte_steps::{
     Took, after_child, blank_taken, char_taken, count_more, count_taken, first_taken, length_more,
     length_taken, size_taken, text_done, text_taken,
 };
-use items::{Item, Run, bare, farthest, items_run, least, named, shape_item, window_end};
+use items::{Run, items_run, shape_item, window_end};
 use moves::{Act, Moved, between_moved, opening_moved};
 
 // What a turn leads to: what the reader is in the middle of then, the place of the next byte, the farthest fault that a walk has met, and what becomes
@@ -32,75 +32,78 @@ pub struct Turned {
     pub act: Act,
 }
 
-// The levels laid by stay.
-fn stay(
-    mode: Mode,
-    top: Level,
-    count: u16,
-    whole: u16,
-    deepest: u16,
-    i: usize,
-    fault: usize,
-) -> Turned
-    ensures { result ≡ stayed mode top count whole deepest i fault }
-{
-    Turned {
-        mode,
-        top,
-        count,
-        whole,
-        deepest,
-        i,
-        fault,
-        act: Act::Stay,
+impl Turned {
+    // What a byte led to.
+    fn took(self, took: Took) -> Turned
+        ensures { result ≡ turned took.mode took.top self.count self.whole took.deepest self.i self.fault self.act }
+    {
+        Turned {
+            mode: took.mode,
+            top: took.top,
+            deepest: took.deepest,
+            ..self
+        }
     }
-}
 
-// And the part is at its end.
-fn rest(mode: Mode, top: Level, count: u16, whole: u16, deepest: u16, i: usize) -> Turned
-    ensures { result ≡ rested mode top count whole deepest i }
-{
-    Turned {
-        mode,
-        top,
-        count,
-        whole,
-        deepest,
-        i,
-        fault: 0,
-        act: Act::Rest,
+    // What was done without a byte.
+    fn moved(self, moved: Moved) -> Turned
+        ensures { result ≡ turned moved.mode moved.top self.count moved.whole moved.deepest self.i self.fault moved.act }
+    {
+        Turned {
+            mode: moved.mode,
+            top: moved.top,
+            whole: moved.whole,
+            deepest: moved.deepest,
+            act: moved.act,
+            ..self
+        }
     }
-}
 
-// What a byte led to.
-fn on(took: Took, count: u16, whole: u16, i: usize, fault: usize) -> Turned
-    ensures { result ≡ stayed took.mode took.top count whole took.deepest i fault }
-{
-    let mode = took.mode;
-    let top = took.top;
-    stay(mode, top, count, whole, took.deepest, i, fault)
-}
+    // No item of the list in hand is taken yet.
+    fn run(self) -> Run
+        ensures { result ≡ run_from self.i self.top.due self.deepest self.fault }
+    {
+        Run {
+            i: self.i,
+            due: self.top.due,
+            deepest: self.deepest,
+            fault: self.fault,
+        }
+    }
 
-// What was done without a byte.
-fn moved_on(moved: Moved, count: u16, i: usize, fault: usize) -> Turned
-    ensures { result ≡ turned moved.mode moved.top count moved.whole moved.deepest i fault moved.act }
-{
-    let mode = moved.mode;
-    let top = moved.top;
-    let act = moved.act;
-    Turned {
-        mode,
-        top,
-        count,
-        whole: moved.whole,
-        deepest: moved.deepest,
-        i,
-        fault,
-        act,
+    // Items of a list that were taken one after the other.
+    fn ran(self, mode: Mode, run: Run) -> Turned
+        requires { (self.i ≤ run.i) × (self.count + (run.i - self.i) ≤ max_bytes) }
+        ensures { result ≡ stayed mode (with_due self.top run.due) (self.count + (run.i - self.i)) self.whole run.deepest run.i run.fault }
+    {
+        Turned {
+            mode,
+            top: self.top.with_due(run.due),
+            count: self.count + (run.i - self.i) as u16,
+            deepest: run.deepest,
+            i: run.i,
+            fault: run.fault,
+            act: Act::Stay,
+            ..self
+        }
+    }
+
+    // The part is at its end, with so many bytes counted.
+    fn rest(self, count: u16, i: usize) -> Turned
+        ensures { result ≡ rested self.mode self.top count self.whole self.deepest i }
+    {
+        Turned {
+            count,
+            i,
+            fault: 0,
+            act: Act::Rest,
+            ..self
+        }
     }
 }
 
 // So many bytes more, counted up to one over the limit.
+#[tactic(auto, using(meaning::proofs::Rules::tests))]
 fn count_on(count: u16, more: usize) -> u16
     requires { count ≤ max_bytes }
     ensures { result ≡ counted_to count more }
@@ -113,406 +116,222 @@ fn count_on(count: u16, more: usize) -> u16
 }
 
 // Nothing is read any more: the bytes left are counted, since an input that is too long is refused for that, whatever else is wrong in it.
-fn skipped(
-    s: &[u8],
-    i: usize,
-    mode: Mode,
-    top: Level,
-    count: u16,
-    whole: u16,
-    deepest: u16,
-) -> Turned
-    requires { (i ≤ length s.now) × (count ≤ max_bytes) }
-    ensures { result ≡ rested mode top (counted_to count (length s.now - i)) whole deepest (length s.now) }
+fn skipped(s: &[u8], t: Turned) -> Turned
+    requires { (t.i ≤ length s.now) × (t.count ≤ max_bytes) }
+    ensures { result ≡ rested t.mode t.top (counted_to t.count (length s.now - t.i)) t.whole t.deepest (length s.now) }
 {
-    rest(
-        mode,
-        top,
-        count_on(count, s.len() - i),
-        whole,
-        deepest,
-        s.len(),
-    )
-}
-
-// Items of a list that were taken one after the other.
-fn ran(mode: Mode, top: Level, run: Run, i: usize, count: u16, whole: u16) -> Turned
-    requires { (i ≤ run.i) × (count + (run.i - i) ≤ max_bytes) }
-    ensures { result ≡ stayed mode (with_due top run.due) (count + (run.i - i)) whole run.deepest run.i run.fault }
-{
-    stay(
-        mode,
-        with_due(top, run.due),
-        count + (run.i - i) as u16,
-        whole,
-        run.deepest,
-        run.i,
-        run.fault,
-    )
+    t.rest(count_on(t.count, s.len() - t.i), s.len())
 }
 
 // A shape is due: those of a list that lie whole in the part, but for the last; one that does; or a first byte.
-fn shape_turn(
-    s: &[u8],
-    i: usize,
-    top: Level,
-    n: u16,
-    count: u16,
-    whole: u16,
-    deepest: u16,
-    fault: usize,
-) -> Turned
-    requires { (i < length s.now) × (count < max_bytes) × (n ≤ max_levels) }
-    ensures { Leads s.now i Head top n count whole deepest result }
+fn shape_turn(s: &[u8], t: Turned, n: u16) -> Turned
+    requires { (t.i < length s.now) × (t.count < max_bytes) × (n ≤ max_levels) }
+    ensures { Leads s.now t.i Head t.top n t.count t.whole t.deepest result }
 {
-    let mut known = fault;
+    let mut fault = t.fault;
     if 0 < n {
-        let items = top.items;
-        if bare(items) {
-            let run = items_run(
-                s,
-                window_end(s, i, top, count, fault),
-                i,
-                items,
-                n,
-                top.due,
-                deepest,
-                fault,
-            );
-            if i < run.i {
-                return ran(Mode::Head, top, run, i, count, whole);
+        if t.top.items.is_bare() {
+            let end = window_end(s, t.i, t.top, t.count, t.fault);
+            let run = items_run(&s[..end], t.top.items, n, t.run());
+            if t.i < run.i {
+                return t.ran(Mode::Head, run);
             }
-            known = run.fault;
+            fault = run.fault;
         }
-        match shape_item(s, window_end(s, i, top, count, known), i, n, deepest) {
-            Item::Cut { fault: place } => {
-                known = farthest(known, place);
+        let end = window_end(s, t.i, t.top, t.count, fault);
+        match shape_item(&s[..end], t.i, n, t.deepest) {
+            Err(cut) => {
+                fault = fault.max(cut.fault);
             }
-            Item::Whole {
-                next,
-                deepest: deeper,
-            } => {
-                return stay(
-                    Mode::Between,
-                    after_child(top, s[i]),
-                    count + (next - i) as u16,
-                    whole,
-                    deeper,
-                    next,
-                    known,
-                );
+            Ok(item) => {
+                return Turned {
+                    mode: Mode::Between,
+                    top: after_child(t.top, s[t.i]),
+                    count: t.count + (item.next - t.i) as u16,
+                    deepest: item.deepest,
+                    i: item.next,
+                    fault,
+                    act: Act::Stay,
+                    ..t
+                };
             }
         }
     }
-    on(
-        first_taken(top, n, deepest, count, s[i]),
-        count + 1,
-        whole,
-        i + 1,
-        known,
-    )
+    let next = Turned {
+        count: t.count + 1,
+        i: t.i + 1,
+        fault,
+        act: Act::Stay,
+        ..t
+    };
+    next.took(first_taken(t.top, n, t.deepest, t.count, s[t.i]))
 }
 
 // An item with a text is due: those that lie whole in the part, but for the last; or a length's first byte.
-fn text_turn(
-    s: &[u8],
-    i: usize,
-    top: Level,
-    n: u16,
-    count: u16,
-    whole: u16,
-    deepest: u16,
-    fault: usize,
-) -> Turned
-    requires { (i < length s.now) × (count < max_bytes) × (n ≤ max_levels) }
-    ensures { Leads s.now i Length top n count whole deepest result }
+fn text_turn(s: &[u8], t: Turned, n: u16) -> Turned
+    requires { (t.i < length s.now) × (t.count < max_bytes) × (n ≤ max_levels) }
+    ensures { Leads s.now t.i Length t.top n t.count t.whole t.deepest result }
 {
-    let mut known = fault;
-    if 0 < n {
-        let items = top.items;
-        if named(items) {
-            let run = items_run(
-                s,
-                window_end(s, i, top, count, fault),
-                i,
-                items,
-                n,
-                top.due,
-                deepest,
-                fault,
-            );
-            if i < run.i {
-                return ran(Mode::Length, top, run, i, count, whole);
-            }
-            known = run.fault;
+    let mut fault = t.fault;
+    if 0 < n && t.top.items.is_named() {
+        let end = window_end(s, t.i, t.top, t.count, t.fault);
+        let run = items_run(&s[..end], t.top.items, n, t.run());
+        if t.i < run.i {
+            return t.ran(Mode::Length, run);
         }
+        fault = run.fault;
     }
-    stay(
-        length_taken(top, count, s[i]),
-        top,
-        count + 1,
-        whole,
-        deepest,
-        i + 1,
-        known,
-    )
+    Turned {
+        mode: length_taken(t.top, t.count, s[t.i]),
+        count: t.count + 1,
+        i: t.i + 1,
+        fault,
+        act: Act::Stay,
+        ..t
+    }
 }
 
 // A text goes on: between two characters as far as it is well formed, or by a byte.
 fn letters_turn(
     s: &[u8],
-    i: usize,
     from: u16,
     left: u16,
     more: u8,
     low: u8,
     high: u8,
-    top: Level,
+    t: Turned,
     n: u16,
-    count: u16,
-    whole: u16,
-    deepest: u16,
-    fault: usize,
 ) -> Turned
-    requires { (i < length s.now) × (count < max_bytes) × (n ≤ max_levels) }
-    ensures { Leads s.now i (Letters from left more low high) top n count whole deepest result }
+    requires { (t.i < length s.now) × (t.count < max_bytes) × (n ≤ max_levels) }
+    ensures { Leads s.now t.i (Letters from left more low high) t.top n t.count t.whole t.deepest result }
 {
     if more == 0 {
-        let room = least(s.len() - i, (BYTES - count) as usize);
-        let to = leaves::well_formed_to(s, i + least(left as usize, room), i);
-        if i < to {
-            let size = (to - i) as u16;
-            if left <= size {
-                let items = top.items;
-                return stay(
-                    text_done(items, top, count + size),
-                    top,
-                    count + size,
-                    whole,
-                    deepest,
-                    to,
-                    fault,
-                );
-            }
-            return stay(
+        let room = (BYTES - t.count).min(left) as usize;
+        let to = leaves::well_formed_to(&s[..t.i + room.min(s.len() - t.i)], t.i);
+        if t.i < to {
+            let size = (to - t.i) as u16;
+            let mode = if left <= size {
+                text_done(t.top.items, t.top, t.count + size)
+            } else {
                 Mode::Letters {
                     from,
                     left: left - size,
                     more: 0,
                     low: 0,
                     high: 0,
-                },
-                top,
-                count + size,
-                whole,
-                deepest,
-                to,
-                fault,
-            );
+                }
+            };
+            return Turned {
+                mode,
+                count: t.count + size,
+                i: to,
+                act: Act::Stay,
+                ..t
+            };
         }
     }
-    stay(
-        text_taken(
-            top,
-            from,
-            left,
-            count + 1,
-            char_taken(more, low, high, s[i]),
-        ),
-        top,
-        count + 1,
-        whole,
-        deepest,
-        i + 1,
-        fault,
-    )
+    let char = char_taken(more, low, high, s[t.i]);
+    Turned {
+        mode: text_taken(t.top, from, left, t.count + 1, char),
+        count: t.count + 1,
+        i: t.i + 1,
+        act: Act::Stay,
+        ..t
+    }
 }
 
 // A byte is there, and the input is not too long: at least the byte is taken, or what comes before it is done.
-fn byte_turn(
-    s: &[u8],
-    i: usize,
-    mode: Mode,
-    top: Level,
-    n: u16,
-    count: u16,
-    whole: u16,
-    deepest: u16,
-    fault: usize,
-) -> Turned
-    requires { (i < length s.now) × (count < max_bytes) × (n + sized mode ≤ max_levels) }
-    ensures { Leads s.now i mode top n count whole deepest result }
+fn byte_turn(s: &[u8], t: Turned, n: u16) -> Turned
+    requires { (t.i < length s.now) × (t.count < max_bytes) × (n + sized t.mode ≤ max_levels) }
+    ensures { Leads s.now t.i t.mode t.top n t.count t.whole t.deepest result }
 {
-    match mode {
-        Mode::Head => shape_turn(s, i, top, n, count, whole, deepest, fault),
-        Mode::SizeLow { kind, at } => stay(
-            Mode::SizeHigh {
-                kind,
-                at,
-                low: s[i],
-            },
-            top,
-            count + 1,
-            whole,
-            deepest,
-            i + 1,
-            fault,
-        ),
-        Mode::SizeHigh { kind, at, low } => stay(
-            size_taken(top, kind, at, count + 1, low, s[i]),
-            top,
-            count + 1,
-            whole,
-            deepest,
-            i + 1,
-            fault,
-        ),
-        Mode::Opening { kind, at, stop } => moved_on(
-            opening_moved(kind, at, stop, top, n, count, whole, deepest),
-            count,
-            i,
-            fault,
-        ),
-        Mode::Count => on(
-            count_taken(top, deepest, count, s[i]),
-            count + 1,
-            whole,
-            i + 1,
-            fault,
-        ),
-        Mode::CountMore { at, low } => on(
-            count_more(top, deepest, at, low, s[i]),
-            count + 1,
-            whole,
-            i + 1,
-            fault,
-        ),
-        Mode::Length => text_turn(s, i, top, n, count, whole, deepest, fault),
-        Mode::LengthMore { at, low } => stay(
-            length_more(top, at, low, count + 1, s[i]),
-            top,
-            count + 1,
-            whole,
-            deepest,
-            i + 1,
-            fault,
-        ),
+    let b = s[t.i];
+    let next = Turned {
+        count: t.count + 1,
+        i: t.i + 1,
+        act: Act::Stay,
+        ..t
+    };
+    match t.mode {
+        Mode::Head => shape_turn(s, t, n),
+        Mode::SizeLow { kind, at } => Turned {
+            mode: Mode::SizeHigh { kind, at, low: b },
+            ..next
+        },
+        Mode::SizeHigh { kind, at, low } => Turned {
+            mode: size_taken(t.top, kind, at, next.count, low, b),
+            ..next
+        },
+        Mode::Count => next.took(count_taken(t.top, t.deepest, t.count, b)),
+        Mode::CountMore { at, low } => next.took(count_more(t.top, t.deepest, at, low, b)),
+        Mode::Length => text_turn(s, t, n),
+        Mode::LengthMore { at, low } => Turned {
+            mode: length_more(t.top, at, low, next.count, b),
+            ..next
+        },
         Mode::Letters {
             from,
             left,
             more,
             low,
             high,
-        } => letters_turn(
-            s, i, from, left, more, low, high, top, n, count, whole, deepest, fault,
-        ),
-        Mode::BlankLow { at } => stay(
-            Mode::BlankHigh { at, low: s[i] },
-            top,
-            count + 1,
-            whole,
-            deepest,
-            i + 1,
-            fault,
-        ),
-        Mode::BlankHigh { at, low } => stay(
-            blank_taken(at, low, s[i]),
-            top,
-            count + 1,
-            whole,
-            larger(deepest, n + 1),
-            i + 1,
-            fault,
-        ),
-        Mode::Between => moved_on(
-            between_moved(top, n, count, whole, deepest),
-            count,
-            i,
-            fault,
-        ),
-        Mode::Done => skipped(s, i, mode, top, count, whole, deepest),
-        Mode::Faulty {
-            number: _,
-            place: _,
-        } => skipped(s, i, mode, top, count, whole, deepest),
+        } => letters_turn(s, from, left, more, low, high, t, n),
+        Mode::BlankLow { at } => Turned {
+            mode: Mode::BlankHigh { at, low: b },
+            ..next
+        },
+        Mode::BlankHigh { at, low } => Turned {
+            mode: blank_taken(at, low, b),
+            deepest: t.deepest.max(n + 1),
+            ..next
+        },
+        Mode::Opening { kind, at, stop } => {
+            t.moved(opening_moved(kind, at, stop, t.top, n, t.count, t.whole, t.deepest))
+        }
+        Mode::Between => t.moved(between_moved(t.top, n, t.count, t.whole, t.deepest)),
+        Mode::Done | Mode::Faulty { .. } => skipped(s, t),
     }
 }
 
 // Where a byte would have to come: the part is at its end, or one byte more is one too many.
-fn waits(s: &[u8], i: usize, mode: Mode, top: Level, count: u16, whole: u16, deepest: u16) -> Turned
-    ensures { result ≡ waited (length s.now) mode top count whole deepest i }
+#[tactic(auto, using(meaning::proofs::Rules::tests))]
+fn waits(s: &[u8], t: Turned) -> Turned
+    ensures { result ≡ waited (length s.now) t.mode t.top t.count t.whole t.deepest t.i }
 {
-    if s.len() <= i {
-        return rest(mode, top, count, whole, deepest, i);
+    if s.len() <= t.i {
+        t.rest(t.count, t.i)
+    } else {
+        t.rest(BYTES + 1, s.len())
     }
-    rest(mode, top, BYTES + 1, whole, deepest, s.len())
 }
 
 // No byte can be taken: what is left to be done without one, or the end.
-fn last_turn(
-    s: &[u8],
-    i: usize,
-    mode: Mode,
-    top: Level,
-    n: u16,
-    count: u16,
-    whole: u16,
-    deepest: u16,
-    fault: usize,
-) -> Turned
-    requires { (i ≤ length s.now) × (i < length s.now → max_bytes ≤ count) × (n + sized mode ≤ max_levels) }
-    ensures { Leads s.now i mode top n count whole deepest result }
+fn last_turn(s: &[u8], t: Turned, n: u16) -> Turned
+    requires { (t.i ≤ length s.now) × (t.i < length s.now → max_bytes ≤ t.count) × (n + sized t.mode ≤ max_levels) }
+    ensures { Leads s.now t.i t.mode t.top n t.count t.whole t.deepest result }
 {
-    match mode {
-        Mode::Opening { kind, at, stop } => moved_on(
-            opening_moved(kind, at, stop, top, n, count, whole, deepest),
-            count,
-            i,
-            fault,
-        ),
-        Mode::Between => moved_on(
-            between_moved(top, n, count, whole, deepest),
-            count,
-            i,
-            fault,
-        ),
-        _ => waits(s, i, mode, top, count, whole, deepest),
+    match t.mode {
+        Mode::Opening { kind, at, stop } => {
+            t.moved(opening_moved(kind, at, stop, t.top, n, t.count, t.whole, t.deepest))
+        }
+        Mode::Between => t.moved(between_moved(t.top, n, t.count, t.whole, t.deepest)),
+        _ => waits(s, t),
     }
-}
-
-// Whether a byte is there to be taken.
-fn there(size: usize, i: usize, count: u16) -> bool
-    ensures yes { result ≡ true → (i < size) × (count < max_bytes) }
-    ensures no { result ≡ false → i < size → max_bytes ≤ count }
-{
-    if i < size {
-        return count < BYTES;
-    }
-    false
 }
 
 // What the reader is in the middle of where a part begins.
 pub fn begun(mode: Mode, top: Level, count: u16, whole: u16, deepest: u16) -> Turned
     ensures { result ≡ stayed mode top count whole deepest 0 0 }
 {
-    stay(mode, top, count, whole, deepest, 0, 0)
-}
-
-// With the level in hand that was laid by last.
-pub fn taken_up(t: Turned, top: Level) -> Turned
-    ensures { result ≡ turned t.mode top t.count t.whole t.deepest t.i t.fault t.act }
-{
-    let mode = t.mode;
-    let act = t.act;
     Turned {
         mode,
         top,
-        count: t.count,
-        whole: t.whole,
-        deepest: t.deepest,
-        i: t.i,
-        fault: t.fault,
-        act,
+        count,
+        whole,
+        deepest,
+        i: 0,
+        fault: 0,
+        act: Act::Stay,
     }
 }
 
@@ -521,10 +340,9 @@ pub fn turn(s: &[u8], t: Turned, n: u16) -> Turned
     requires { (t.i ≤ length s.now) × (n + sized t.mode ≤ max_levels) }
     ensures { Leads s.now t.i t.mode t.top n t.count t.whole t.deepest result }
 {
-    let mode = t.mode;
-    let top = t.top;
-    if there(s.len(), t.i, t.count) {
-        return byte_turn(s, t.i, mode, top, n, t.count, t.whole, t.deepest, t.fault);
+    if t.i < s.len() && t.count < BYTES {
+        byte_turn(s, t, n)
+    } else {
+        last_turn(s, t, n)
     }
-    last_turn(s, t.i, mode, top, n, t.count, t.whole, t.deepest, t.fault)
 }

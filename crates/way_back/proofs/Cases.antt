@@ -1,7 +1,7 @@
 -- What the way back answers, case by case, from what the code finds out.
 --     Found, found                 an input that the reader accepts is the encoding of a shape within the limits
 --     found-few, found-short       what the shape adds is few, and its bytes are
---     answer-unread                an input that the reader refuses
+--     unread-said, unread-buffer   an input that the reader refuses
 --     answer-short, answer-made    of an accepted one, without and with room for the table
 --     sections-fit                 which its sections then have
 -- Assumes nothing.
@@ -17,11 +17,15 @@ use Rattle.meaning.specs.Encode.{encode}
 use Rattle.meaning.specs.Within.{Within}
 use Rattle.meaning.specs.Reading.{Reading, got, bad, reading}
 use Rattle.meaning.specs.Table.{table_bytes, table_of}
-use Rattle.meaning.specs.Answers.{answered, refused, onto, table_answer}
+use Rattle.meaning.specs.Answers.{answered, refused, onto, table_answer, buffer_after}
 use Rattle.meaning.proofs.Window.{bytes-by-index}
 use Rattle.meaning.proofs.Laws.{by-reading}
 use Rattle.meaning.proofs.TableAnswers.{table-answers, table-short}
-use Rattle.reader.specs.declared.Judgement.TheVariants.{Accepted, Refused}
+use Rattle.std.specs.Prelude.{Result, Ok, Err}
+use Rattle.leaves.specs.Faults.{refusal}
+use Rattle.leaves.specs.declared.refusals.Refusal.{Refusal}
+use Rattle.buffers.specs.Said.{made_said}
+use Rattle.reader.specs.declared.Accepted.{Accepted}
 use Rattle.reader.specs.Said.{said}
 use Rattle.steps.specs.Pass.{came, pass_shape}
 use Rattle.steps.proofs.Passed.{pass-whole}
@@ -38,20 +42,27 @@ pub record Found (s : List ℕ) : Type 0 where
   pub within : Within t
 
 -- What the reader accepts is one.
-pub found : (s : List ℕ) → ((i : ℕ) → get_or s i 0 < 256) → (l d : ℕ) → said (reading s) ≡ Accepted l d → Found s
-found s b l d =
-    by-reading (λ s r. said r ≡ Accepted l d → Found s) s (bytes-by-index s b)
+pub found : (s : List ℕ) → ((i : ℕ) → get_or s i 0 < 256) → (a : Accepted) → said (reading s) ≡ Ok a → Found s
+found s b a =
+    by-reading (λ s r. said r ≡ Ok a → Found s) s (bytes-by-index s b)
     (λ t w i h. record { t = t; is = refl; within = i })
     (λ n q h. let z : ◌≡◌ {A = ℕ} 0 1 = cc in absurd (omega arith))
 
--- What the reader refuses is refused so.
-pub answer-unread : (s : List ℕ) (room n p : ℕ) → said (reading s) ≡ Refused n p → table_answer s room ≡ refused n p
-unfolding table_answer onto
-answer-unread s room n p = go (reading s) refl
-  where
-    go : (r : Reading Shape) → reading s ≡ r → said r ≡ Refused n p → table_answer s room ≡ refused n p
-    go (got t w) e h = cc
-    go (bad m q) e h = rw e (let a : m ≡ n = cc in let b : q ≡ p = cc in rw (a, b))
+module _ (s : List ℕ) (room : ℕ) where
+  -- The answer to a reading that is refused: the refusal,
+  unread : (r : Reading Shape) → reading s ≡ r → (e : Refusal) → said r ≡ Err e → (n : ℕ) × (p : ℕ) × (table_answer s room ≡ refused n p) × (◌≡◌ {A = Result ℕ Refusal} (Err e) (Err (refusal n p)))
+  unfolding table_answer onto
+  unread (got t w) h e q = let z : ◌≡◌ {A = ℕ} 0 1 = cc in absurd (omega arith)
+  unread (bad n p) h e q = (n, p, rw h, cc)
+
+  -- What the reader refuses is refused so,
+  pub unread-said : (e : Refusal) → said (reading s) ≡ Err e → ◌≡◌ {A = Result ℕ Refusal} (Err e) (made_said (table_answer s room))
+  unread-said e q = let u = unread (reading s) refl e q in rw u.2 u.3
+
+  -- and nothing is written.
+  pub unread-buffer : (out : List ℕ) (e : Refusal) → said (reading s) ≡ Err e → out ≡ buffer_after out (table_answer s room)
+  unfolding buffer_after
+  unread-buffer out e q = let u = unread (reading s) refl e q in rw u.2
 
 module _ (s : List ℕ) (f : Found s) where
   -- The pass makes of it what its shape adds.

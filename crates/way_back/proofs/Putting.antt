@@ -2,6 +2,7 @@
 --     put-none               where no shape stands, nothing is written
 --     Turn, turn-first       what the loop keeps: the shapes so far stand in the buffer, and the others end as the whole list does; so it starts
 --     turn-few, turn-text    where what the whole list adds is few, what an item's shape adds is after those before it, and so are the texts
+--     turn-within            the shape starts inside
 --     turn-room, turn_on     the shape has room, and with it written the loop goes on
 --     turn_end               at the end the shapes of all items are written
 --     list-few               where what a list adds is few, what its items add is after those before it
@@ -11,8 +12,8 @@
 -- Assumes nothing.
 use mathlib.Core.Path.{◌≡◌, refl, sym, subst, ◌∙◌}
 use mathlib.Core.List.{List}
-use Prim.Native.Nat.{ℕ, ◌+◌, ◌-◌, ◌≤◌, ◌<◌}
-use native.Mathlib.Nat.{add_assoc}
+use Prim.Native.Nat.{ℕ, ◌+◌, ◌-◌, ◌≤◌, ◌<◌, max}
+use native.Mathlib.Nat.{add_assoc, sub-zero}
 use native.Mathlib.Omega.{arith}
 use lib.ListN.{length, length-append}
 use lib.Seq.{slice}
@@ -20,12 +21,11 @@ use Rattle.payloads.specs.declared.first.Kind.{Kind}
 use Rattle.steps.specs.Steps.{past_name}
 use Rattle.steps.specs.declared.Listing.{Listing}
 use Rattle.steps.specs.Pass.{Came, came, Passer, pass_items, pass_shape}
-use Rattle.steps.proofs.Passing.{items-one, items-none}
 use Rattle.counts.specs.declared.Counts.{Counts}
 use Rattle.counts.specs.declared.Section.{Section}
 use Rattle.counts.specs.Pieces.{plus, Few, text_in, Piece, Gathered, nothing, no_items, with_item, own_counts, own_bytes, pieces, Linked}
 use Rattle.counts.proofs.Grows.{grows, items-count, shapes-grow}
-use Rattle.counts.proofs.Counting.{part, part-is, all_of, IsList}
+use Rattle.counts.proofs.Counting.{part, part-is, items-next, items-end, all_of, IsList}
 use Rattle.counts.proofs.Linked.{items-linked, shape-linked}
 use Rattle.way_back.specs.declared.Put.{Put}
 use Rattle.way_back.specs.declared.PutItems.{PutItems}
@@ -44,37 +44,36 @@ pub put-none : {section : Section} {s : List ℕ} {base : Counts} {d : List ℕ}
 put-none {base = base} {d = d} {to = to} e i = rw e (record { wrote = wrote_none d to; next_is = refl; there_is = sym (plus_none base); inside = i })
 
 -- what the loop keeps, of the buffer d that is now e: the items so far are a
-pub record Turn (section : Section) (inner : Passer Piece) (kind : Kind) (s : List ℕ) (from first count : ℕ) (base : Counts) (d e : List ℕ) (at to : ℕ) (there : Counts) (text due : ℕ) : Type 0 where
+pub record Turn (section : Section) (inner : Passer Piece) (kind : Kind) (s : List ℕ) (from first count : ℕ) (base : Counts) (d e : List ℕ) (at to : ℕ) (there : Counts) (text k : ℕ) : Type 0 where
   pub a : Gathered
-  pub goes : pass_items pieces inner kind count s from no_items ≡ pass_items pieces inner kind due s at a
+  pub goes : pass_items pieces inner kind count s from no_items ≡ pass_items pieces inner kind (count - k) s at a
   pub wrote : Wrote d e first (a.shapes section base) to
   pub there_is : there ≡ plus base a.counts
   pub text_is : text ≡ a.text
   pub linked : Linked there
   pub long : length e ≡ length d
   pub inside : at ≤ length s
-  pub fewer : due ≤ count
 
 -- So the loop starts, with nothing written.
 pub turn-first : (section : Section) (inner : Passer Piece) (kind : Kind) (s : List ℕ) (from first count : ℕ) (base : Counts) (d : List ℕ) → from ≤ length s → Linked base
-    → Turn section inner kind s from first count base d d from first base 0 count
+    → Turn section inner kind s from first count base d d from first base 0 0
 turn-first section inner kind s from first count base d i l =
-    record { a = no_items; goes = refl; wrote = wrote_none d first; there_is = sym (plus_none base); text_is = refl; linked = l; long = refl; inside = i; fewer = omega arith }
+    record { a = no_items; goes = rw sub-zero; wrote = wrote_none d first; there_is = sym (plus_none base); text_is = refl; linked = l; long = refl; inside = i }
 
-module _ {section : Section} {inner : Passer Piece} {kind : Kind} {s : List ℕ} {from first count : ℕ} {base : Counts} {d e : List ℕ} {at to : ℕ} {there : Counts} {text due : ℕ}
-    (t : Turn section inner kind s from first count base d e at to there text due)
+module _ {section : Section} {inner : Passer Piece} {kind : Kind} {s : List ℕ} {from first count : ℕ} {base : Counts} {d e : List ℕ} {at to : ℕ} {there : Counts} {text k : ℕ}
+    (t : Turn section inner kind s from first count base d e at to there text k)
     (few : FewAfter base (pass_items pieces inner kind count s from no_items).made)
     (room : Room (length d) first ((pass_items pieces inner kind count s from no_items).made.shapes section base))
-    (pos : 0 < due) {start : ℕ} (is : start ≡ past_name s at kind) where
+    (due : k < count) {start : ℕ} (is : start ≡ past_name s at kind) where
   -- The item is passed over, and the others follow it.
-  goes_on_lem : pass_items pieces inner kind count s from no_items ≡ pass_items pieces inner kind (due - 1) s (inner s start).next (with_item t.a (slice at start s) (inner s start).made)
-  goes_on_lem = t.goes ∙ items-one pieces inner kind s at t.a due pos ∙ rw is
+  goes_on_lem : pass_items pieces inner kind count s from no_items ≡ pass_items pieces inner kind (count - (k + 1)) s (inner s start).next (with_item t.a (slice at start s) (inner s start).made)
+  goes_on_lem = t.goes ∙ items-next inner kind s at t.a k count due ∙ rw is
 
   -- What its shape adds is few after those before it.
   pub turn-few : Few (plus there (inner s start).made.counts)
   turn-few =
       let v : Piece = (inner s start).made in
-      let g = (grows inner kind s (due - 1) (inner s start).next (with_item t.a (slice at start s) v)).counts in
+      let g = (grows inner kind s (count - (k + 1)) (inner s start).next (with_item t.a (slice at start s) v)).counts in
       let f = rw goes_on_lem at few.0 in
       rw t.there_is (omega (arith, f.0, g.nodes), omega (arith, f.1, g.links), omega (arith, f.2, g.names), omega (arith, f.3, g.text))
 
@@ -82,7 +81,7 @@ module _ {section : Section} {inner : Passer Piece} {kind : Kind} {s : List ℕ}
   both-room : first + (length (t.a.shapes section base) + length ((inner s start).made.bytes section there)) ≤ length d
   both-room =
       let v : Piece = (inner s start).made in
-      let g = shapes-grow inner kind s section base (due - 1) (inner s start).next (with_item t.a (slice at start s) v) in
+      let g = shapes-grow inner kind s section base (count - (k + 1)) (inner s start).next (with_item t.a (slice at start s) v) in
       let f = rw goes_on_lem at room in
       rw t.there_is (omega (arith, f, g, length-append (t.a.shapes section base) (v.bytes section (plus base t.a.counts))))
 
@@ -90,36 +89,40 @@ module _ {section : Section} {inner : Passer Piece} {kind : Kind} {s : List ℕ}
   pub turn-room : Room (length e) to ((inner s start).made.bytes section there)
   turn-room = omega (arith, both-room, t.wrote.after, t.long)
 
-  module _ (onward : at ≤ start) (within : start ≤ length s) {size : ℕ} (is-size : size ≡ length (text_in (part at start s))) where
-    -- The texts are few with the item's text.
-    pub turn-text : text + size < 65536
-    turn-text =
-        let g = (grows inner kind s (due - 1) (inner s start).next (with_item t.a (slice at start s) (inner s start).made)).text in
-        let f = rw goes_on_lem at few.1 in
-        rw (is-size, t.text_is, part-is at start s onward within) (omega (arith, f, g))
+  module _ (inside : (at ≤ start) × (start ≤ max at (length s))) where
+    -- It starts inside.
+    pub turn-within : start ≤ length s
+    turn-within = omega (arith, inside.1, t.inside)
 
-    -- With the shape written the loop goes on.
-    pub turn_on : {f : List ℕ} {r : Put} → PutIs section s there e f to r (inner s start) → length f ≡ length e → Linked (inner s start).made.counts
-        → Turn section inner kind s from first count base d f r.next r.to r.there (text + size) (due - 1)
-    turn_on v k l =
-        record {
-          a = with_item t.a (slice at start s) (inner s start).made;
-          goes = goes_on_lem ∙ rw v.next_is;
-          wrote = wrote_after (omega (arith, both-room)) t.wrote (rw t.there_is at v.wrote);
-          there_is = v.there_is ∙ rw t.there_is (plus_assoc base t.a.counts (inner s start).made.counts);
-          text_is = rw (is-size, t.text_is, part-is at start s onward within);
-          linked = rw v.there_is (omega (arith, t.linked));
-          long = k ∙ t.long;
-          inside = v.inside;
-          fewer = omega (arith, t.fewer);
-        }
+    module _ {size : ℕ} (is-size : size ≡ length (text_in (part at start s))) where
+      -- The texts are few with the item's text.
+      pub turn-text : text + size < 65536
+      turn-text =
+          let g = (grows inner kind s (count - (k + 1)) (inner s start).next (with_item t.a (slice at start s) (inner s start).made)).text in
+          let f = rw goes_on_lem at few.1 in
+          rw (is-size, t.text_is, part-is at start s inside.0 turn-within) (omega (arith, f, g))
+
+      -- With the shape written the loop goes on.
+      pub turn_on : {f : List ℕ} {r : Put} → PutIs section s there e f to r (inner s start) → length f ≡ length e → Linked (inner s start).made.counts
+          → Turn section inner kind s from first count base d f r.next r.to r.there (text + size) (k + 1)
+      turn_on v z l =
+          record {
+            a = with_item t.a (slice at start s) (inner s start).made;
+            goes = goes_on_lem ∙ rw v.next_is;
+            wrote = wrote_after (omega (arith, both-room)) t.wrote (rw t.there_is at v.wrote);
+            there_is = v.there_is ∙ rw t.there_is (plus_assoc base t.a.counts (inner s start).made.counts);
+            text_is = rw (is-size, t.text_is, part-is at start s inside.0 turn-within);
+            linked = rw v.there_is (omega (arith, t.linked));
+            long = z ∙ t.long;
+            inside = v.inside;
+          }
 
 -- At the end the shapes of all items are written.
-pub turn_end : {section : Section} {inner : Passer Piece} {kind : Kind} {s : List ℕ} {from first count : ℕ} {base : Counts} {d e : List ℕ} {at to : ℕ} {there : Counts} {text due : ℕ}
-    → Turn section inner kind s from first count base d e at to there text due → due ≤ 0
-    → PutItemsIs section s base d e first (record { next = at; to = to; there = there; text = text }) (pass_items pieces inner kind count s from no_items)
-turn_end {inner = inner} {kind = kind} {s = s} {at = at} {due = due} t z =
-    rw (t.goes ∙ items-none pieces inner kind s at t.a due z)
+pub turn_end : {section : Section} {inner : Passer Piece} {kind : Kind} {s : List ℕ} {from first count : ℕ} {base : Counts} {d e : List ℕ} {at to : ℕ} {there : Counts} {text k : ℕ}
+    → Turn section inner kind s from first count base d e at to there text k → count ≤ k
+    → PutItemsIs section s base d e first (record { put = record { next = at; to = to; there = there }; text = text }) (pass_items pieces inner kind count s from no_items)
+turn_end {inner = inner} {kind = kind} {s = s} {count = count} {at = at} {k = k} t z =
+    rw (t.goes ∙ items-end inner kind s at t.a k count z)
     (record { wrote = t.wrote; next_is = refl; there_is = t.there_is; text_is = t.text_is; inside = t.inside })
 
 module _ {left : ℕ} {s : List ℕ} {at : ℕ} {kind : Kind} {l : Listing} (m : IsList left s at kind l) (base : Counts) where
@@ -156,18 +159,18 @@ module _ {left : ℕ} {s : List ℕ} {at : ℕ} {kind : Kind} {l : Listing} (m :
 
   module _ {section : Section} {d e : List ℕ} {to : ℕ} {r : PutItems} {own : Counts} (v : PutItemsIs section s base d e to r (all_of left s kind l)) (is-own : own ≡ own_counts kind l.count r.text) where
     -- What is there after them is what the list adds to what was there before.
-    sum_is : plus r.there own ≡ plus base (pass_shape pieces left s at).made.counts
+    sum_is : plus r.put.there own ≡ plus base (pass_shape pieces left s at).made.counts
     sum_is =
         rw (is-own, v.there_is, v.text_is, m.passed, items-count (pass_shape pieces (left - 1)) kind s l.count l.from) (plus_assoc base all.counts (own_counts kind l.count all.text))
 
     -- So it is few,
-    pub sum-few : Few (plus base (pass_shape pieces left s at).made.counts) → Few (plus r.there own)
+    pub sum-few : Few (plus base (pass_shape pieces left s at).made.counts) → Few (plus r.put.there own)
     sum-few few = subst (λ (c : Counts). Few c) (sym sum_is) few
 
     -- and with the entries written the list is.
     pub list_put : {f : List ℕ} {end : ℕ} {there : Counts} → Room (length d) to ((pass_shape pieces left s at).made.bytes section base)
-        → Wrote e f r.to (own_bytes section kind all base) end → there ≡ plus r.there own
-        → PutIs section s base d f to (record { next = r.next; to = end; there = there }) (pass_shape pieces left s at)
+        → Wrote e f r.put.to (own_bytes section kind all base) end → there ≡ plus r.put.there own
+        → PutIs section s base d f to (record { next = r.put.next; to = end; there = there }) (pass_shape pieces left s at)
     list_put fits w h =
         record {
           wrote = rw m.passed (wrote_after (omega (arith, items-room section (length d) to fits)) v.wrote w);

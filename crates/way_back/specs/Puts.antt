@@ -31,8 +31,8 @@ pub record PutIs (section : Section) (s : List ℕ) (base : Counts) (d e : List 
 
 -- so of the shapes of a list's items, with the length of the items' texts
 pub record PutItemsIs (section : Section) (s : List ℕ) (base : Counts) (d e : List ℕ) (to : ℕ) (r : PutItems) (v : Came Gathered) : Type 0 where
-  pub wrote : Wrote d e to (v.made.shapes section base) r.to
-  pub next_is : r.next ≡ v.next
-  pub there_is : r.there ≡ plus base v.made.counts
+  pub wrote : Wrote d e to (v.made.shapes section base) r.put.to
+  pub next_is : r.put.next ≡ v.next
+  pub there_is : r.put.there ≡ plus base v.made.counts
   pub text_is : r.text ≡ v.made.text
-  pub inside : r.next ≤ length s
+  pub inside : r.put.next ≤ length s

@@ -11,32 +11,32 @@ ghost use Rattle.payloads.specs.declared.first.First.TheVariants.{Long};
 ghost use Rattle.payloads.specs.declared.first.Kind.TheVariants.{Array, Map};
 ghost use Rattle.payloads.specs.Payload.{shaped};
 ghost use Rattle.steps.specs.Steps.{first_at};
-ghost use Rattle.steps.specs.Pass.{pass_items, pass_shape};
-ghost use Rattle.counts.specs.Pieces.{none, plus, Few, no_items, packed_array, packed_map, list_piece, short_piece, symbol_piece, pieces, Linked, table_size, sections};
+ghost use Rattle.steps.specs.Pass.{pass_shape};
+ghost use Rattle.counts.specs.Pieces.{none, plus, Few, packed_array, packed_map, list_piece, short_piece, symbol_piece, pieces, Linked, table_size, sections};
+ghost use Rattle.counts.specs.Counts.{shapes_at};
 ghost use Rattle.entries.specs.Entries.{Wrote, Room};
 ghost use Rattle.way_back.specs.Puts.{bare_entry, FewAfter, PutIs, PutItemsIs};
 
-use buffers::{Made, put_two};
-use counts::{Counts, Section, count_at, count_plain, no_counts, own_counts, plus, short_counts};
+use buffers::put_two;
+use counts::items::Items;
+use counts::{Counts, Section, count_at, count_plain, own_counts, short_counts};
 use entries::{put_link, put_list, put_node};
 use leaves::COUNT_SIZE;
 use leaves::limits::MAX_LEVELS;
-use leaves::refusals::BUFFER_SHORT;
+use leaves::refusals::{Fault, Refusal};
 use payloads::first::{First, Kind, PACKED, PACKED_MAPS, PRIMITIVES, SHORT_BLANKS};
-use reader::Judgement;
 use steps::{HEAD_SIZE, LONG_BLANK};
 use tables::{ARRAY, LINK_SIZE, MAP, NAME_SIZE, NODE_SIZE, SYMBOL, VARIABLE};
 
 // A link without a name. The place after it.
+#[tactic(auto, using(entries::proofs::Wrote::wrote_none))]
 fn put_bare(section: Section, target: usize, out: &mut [u8], to: usize) -> usize
     requires { (target < 65536) × Room (length out.old) to (bare_entry section target) }
     ensures { Wrote out.old out.new to (bare_entry section target) result }
 {
     match section {
-        Section::Nodes => to,
         Section::Links => put_link(Kind::Array, target, 0, out, to),
-        Section::Names => to,
-        Section::Text => to,
+        Section::Nodes | Section::Names | Section::Text => to,
     }
 }
 
@@ -63,21 +63,20 @@ fn put_map(section: Section, p: u8, q: u8, base: Counts, out: &mut [u8], to: usi
 }
 
 // What a section gets of a shape of one byte. The place after it.
+#[tactic(auto, using(counts::proofs::Shorts::kinds))]
 fn put_short(section: Section, b: u8, base: Counts, out: &mut [u8], to: usize) -> usize
     requires { Few (plus base (short_piece b).counts) × Room (length out.old) to ((short_piece b).bytes section base) }
     ensures { Wrote out.old out.new to ((short_piece b).bytes section base) result }
 {
-    if b < SHORT_BLANKS {
-        return put_node(section, VARIABLE, b as usize, 0, out, to);
+    match b {
+        0..SHORT_BLANKS => put_node(section, VARIABLE, b as usize, 0, out, to),
+        PRIMITIVES..PACKED => put_node(section, b - PRIMITIVES, 0, 0, out, to),
+        PACKED..PACKED_MAPS => put_array(section, b - PACKED, base, out, to),
+        _ => {
+            let pair = b - PACKED_MAPS;
+            put_map(section, pair / 5, pair % 5, base, out, to)
+        }
     }
-    if b < PACKED {
-        return put_node(section, b - PRIMITIVES, 0, 0, out, to);
-    }
-    if b < PACKED_MAPS {
-        return put_array(section, b - PACKED, base, out, to);
-    }
-    let pair = b - PACKED_MAPS;
-    put_map(section, pair / 5, pair % 5, base, out, to)
 }
 
 // What a section gets of a Symbol, given its bytes. The place after it.
@@ -89,52 +88,16 @@ fn put_symbol(section: Section, w: &[u8], base: Counts, out: &mut [u8], to: usiz
         return put_node(section, SYMBOL, base.links, 0, out, to);
     }
     let list = steps::list_at(w, HEAD_SIZE, Kind::Symbol);
-    put_list(
-        section,
-        w,
-        list.from,
-        0,
-        Kind::Symbol,
-        list.count,
-        base,
-        base,
-        out,
-        to,
-    )
+    let items = Items {
+        from: list.from,
+        count: list.count,
+        kind: Kind::Symbol,
+        left: 0,
+    };
+    put_list(section, w, items, base, base, out, to)
 }
 
-// What a section gets of a shape with a payload that is no list of shapes. The place after it.
-fn put_plain(
-    section: Section,
-    s: &[u8],
-    at: usize,
-    left: usize,
-    kind: Kind,
-    base: Counts,
-    out: &mut [u8],
-    to: usize,
-) -> usize
-    requires { (at < length s.now) × (length s.now < 65536) × (first_at s.now at ≡ Long kind) × (shaped kind ≡ false) × Few (plus base (pass_shape pieces left s.now at).made.counts) × Room (length out.old) to ((pass_shape pieces left s.now at).made.bytes section base) }
-    ensures { Wrote out.old out.new to ((pass_shape pieces left s.now at).made.bytes section base) result }
-{
-    if payloads::named_kind(kind) {
-        let next = steps::past_long(s, at);
-        return put_symbol(section, &s[at..next], base, out, to);
-    }
-    if s.len() - at < LONG_BLANK {
-        return to;
-    }
-    put_node(
-        section,
-        VARIABLE,
-        leaves::two_at(s, at + HEAD_SIZE),
-        0,
-        out,
-        to,
-    )
-}
-
-// Where a shape was written: the place after it in the encoding, the place after its entries in the table, and how many entries are there then.
+// How far a section is written: the place of what is next in the encoding, that of its entries in the table, and how many entries are there before.
 #[derive(Clone, Copy)]
 pub struct Put {
     pub next: usize,
@@ -142,96 +105,82 @@ pub struct Put {
     pub there: Counts,
 }
 
-// So of the shapes of a list's items, and how long the items' texts are.
+// So after the items of a list, and how long the items' texts are.
 #[derive(Clone, Copy)]
 pub struct PutItems {
-    pub next: usize,
-    pub to: usize,
-    pub there: Counts,
+    pub put: Put,
     pub text: usize,
 }
 
-// What a section gets of the shape at a place, where so many entries are there before it.
-#[cycle(put_at_put_items)]
-fn put_at(
+// What a section gets of the shape that is next, with a payload that is no list of shapes. The place after it.
+fn put_plain(
     section: Section,
     s: &[u8],
-    at: usize,
     left: usize,
-    base: Counts,
+    kind: Kind,
+    from: Put,
     out: &mut [u8],
-    to: usize,
-) -> Put
-    requires { (at ≤ length s.now) × (length s.now < 65536) × (left ≤ max_levels) × Few (plus base (pass_shape pieces left s.now at).made.counts) × Room (length out.old) to ((pass_shape pieces left s.now at).made.bytes section base) × Linked base }
-    ensures { PutIs section s.now base out.old out.new to result (pass_shape pieces left s.now at) }
+) -> usize
+    requires { (from.next < length s.now) × (length s.now < 65536) × (first_at s.now from.next ≡ Long kind) × (shaped kind ≡ false) × Few (plus from.there (pass_shape pieces left s.now from.next).made.counts) × Room (length out.old) from.to ((pass_shape pieces left s.now from.next).made.bytes section from.there) }
+    ensures { Wrote out.old out.new from.to ((pass_shape pieces left s.now from.next).made.bytes section from.there) result }
 {
+    let at = from.next;
+    if kind.is_named() {
+        let next = steps::past_long(s, at);
+        return put_symbol(section, &s[at..next], from.there, out, from.to);
+    }
+    if s.len() - at < LONG_BLANK {
+        return from.to;
+    }
+    let number = leaves::two_at(s, at + HEAD_SIZE);
+    put_node(section, VARIABLE, number, 0, out, from.to)
+}
+
+// What a section gets of the shape that is next. How far it is written then.
+#[cycle(put_at_put_items)]
+fn put_at(section: Section, s: &[u8], left: usize, from: Put, out: &mut [u8]) -> Put
+    requires { (from.next ≤ length s.now) × (length s.now < 65536) × (left ≤ max_levels) × Few (plus from.there (pass_shape pieces left s.now from.next).made.counts) × Room (length out.old) from.to ((pass_shape pieces left s.now from.next).made.bytes section from.there) × Linked from.there }
+    ensures { PutIs section s.now from.there out.old out.new from.to result (pass_shape pieces left s.now from.next) }
+{
+    let Put {
+        next: at,
+        to,
+        there: base,
+    } = from;
     match steps::first_at(s, at) {
-        First::Unassigned => Put {
-            next: at,
-            to,
-            there: base,
-        },
-        First::Short { levels: _ } => {
+        First::Unassigned => from,
+        First::Short { .. } => {
             let b = s[at];
-            let end = put_short(section, b, base, out, to);
             Put {
                 next: at + 1,
-                to: end,
-                there: plus(base, short_counts(b)),
+                to: put_short(section, b, base, out, to),
+                there: base + short_counts(b),
             }
         }
         First::Long { kind } => {
-            if payloads::shaped_kind(kind) {
-                if left == 0 {
-                    return Put {
-                        next: at,
-                        to,
-                        there: base,
-                    };
-                }
-                if s.len() - at < HEAD_SIZE {
-                    return Put {
-                        next: at,
-                        to,
-                        there: base,
-                    };
-                }
-                let list = steps::list_at(s, at + HEAD_SIZE, kind);
-                let all = put_items(
-                    section,
-                    s,
-                    list.from,
-                    left - 1,
-                    kind,
-                    list.count,
-                    base,
-                    out,
-                    to,
-                );
-                let end = put_list(
-                    section,
-                    s,
-                    list.from,
-                    left - 1,
-                    kind,
-                    list.count,
-                    base,
-                    all.there,
-                    out,
-                    all.to,
-                );
+            if !kind.is_shaped() {
+                let part = count_plain(s, at, left, kind);
                 return Put {
-                    next: all.next,
-                    to: end,
-                    there: plus(all.there, own_counts(kind, list.count, all.text)),
+                    next: part.next,
+                    to: put_plain(section, s, left, kind, from, out),
+                    there: base + part.counts,
                 };
             }
-            let end = put_plain(section, s, at, left, kind, base, out, to);
-            let part = count_plain(s, at, left, kind);
+            if left == 0 || s.len() - at < HEAD_SIZE {
+                return from;
+            }
+            let list = steps::list_at(s, at + HEAD_SIZE, kind);
+            let items = Items {
+                from: list.from,
+                count: list.count,
+                kind,
+                left: left - 1,
+            };
+            let all = put_items(section, s, items, from, out);
             Put {
-                next: part.next,
-                to: end,
-                there: plus(base, part.counts),
+                next: all.put.next,
+                to: put_list(section, s, items, base, all.put.there, out, all.put.to),
+                there: all.put.there + own_counts(kind, items.count, all.text),
             }
         }
     }
@@ -239,40 +188,21 @@ fn put_at(
 
 // What a section gets of the shapes of a list's items. The pair of levels left and items left falls, as the reader's does.
 #[cycle(put_at_put_items)]
-fn put_items(
-    section: Section,
-    s: &[u8],
-    from: usize,
-    left: usize,
-    kind: Kind,
-    count: usize,
-    base: Counts,
-    out: &mut [u8],
-    first: usize,
-) -> PutItems
-    requires { (from ≤ length s.now) × (length s.now < 65536) × (left ≤ max_levels) × (count ≤ 16384) × FewAfter base (pass_items pieces (pass_shape pieces left) kind count s.now from no_items).made × Room (length out.old) first ((pass_items pieces (pass_shape pieces left) kind count s.now from no_items).made.shapes section base) × Linked base }
-    ensures { PutItemsIs section s.now base out.old out.new first result (pass_items pieces (pass_shape pieces left) kind count s.now from no_items) }
+fn put_items(section: Section, s: &[u8], items: Items, from: Put, out: &mut [u8]) -> PutItems
+    requires { (items.from ≤ length s.now) × (length s.now < 65536) × FewAfter from.there (shapes_at s.now items).made × Room (length out.old) from.to ((shapes_at s.now items).made.shapes section from.there) × Linked from.there }
+    ensures { PutItemsIs section s.now from.there out.old out.new from.to result (shapes_at s.now items) }
 {
-    let mut at = from;
-    let mut to = first;
-    let mut there = base;
+    let mut put = Put {
+        next: items.from,
+        ..from
+    };
     let mut text = 0;
-    let mut due = count;
-    while 0 < due {
-        due -= 1;
-        let start = steps::past_name(s, at, kind);
-        text += counts::text_size(&s[at..start]);
-        let part = put_at(section, s, start, left, there, out, to);
-        to = part.to;
-        there = part.there;
-        at = part.next;
+    for _ in 0..items.count {
+        let start = steps::past_name(s, put.next, items.kind);
+        text += counts::text_size(&s[put.next..start]);
+        put = put_at(section, s, items.left, Put { next: start, ..put }, out);
     }
-    PutItems {
-        next: at,
-        to,
-        there,
-        text,
-    }
+    PutItems { put, text }
 }
 
 // A section of an accepted encoding's table, after its count. The place after it.
@@ -281,16 +211,12 @@ fn put_section(section: Section, count: usize, bytes: &[u8], out: &mut [u8], to:
     ensures { Wrote out.old out.new to (two_bytes count ++ (pass_shape pieces max_levels bytes.now 0).made.bytes section none) result }
 {
     put_two(out, to, count);
-    put_at(
-        section,
-        bytes,
-        0,
-        MAX_LEVELS,
-        no_counts(),
-        out,
-        to + COUNT_SIZE,
-    )
-    .to
+    let from = Put {
+        next: 0,
+        to: to + COUNT_SIZE,
+        there: Counts::NONE,
+    };
+    put_at(section, bytes, MAX_LEVELS, from, out).to
 }
 
 // How many bytes a table of so many entries has.
@@ -317,26 +243,18 @@ fn put_table(bytes: &[u8], all: Counts, out: &mut [u8]) -> usize
 }
 
 // Makes the table of an encoding, whatever its bytes are, in the front of a lent buffer of any length.
-pub fn to_table(bytes: &[u8], out: &mut [u8]) -> Made
+pub fn to_table(bytes: &[u8], out: &mut [u8]) -> Result<usize, Refusal>
     ensures is { result ≡ made_said (table_answer bytes.now (length out.old)) }
     ensures buffer { out.new ≡ buffer_after out.old (table_answer bytes.now (length out.old)) }
 {
-    match reader::read(bytes) {
-        Judgement::Refused { number, place } => Made::Refused { number, place },
-        Judgement::Accepted {
-            length: _,
-            depth: _,
-        } => {
-            let all = count_at(bytes, 0, MAX_LEVELS).counts;
-            let needed = table_size(all);
-            if out.len() < needed {
-                return Made::Refused {
-                    number: BUFFER_SHORT,
-                    place: needed,
-                };
-            }
-            let length = put_table(bytes, all, out);
-            Made::Written { length }
-        }
+    reader::read(bytes)?;
+    let all = count_at(bytes, 0, MAX_LEVELS).counts;
+    let needed = table_size(all);
+    if out.len() < needed {
+        return Err(Refusal {
+            fault: Fault::BufferShort,
+            place: needed,
+        });
     }
+    Ok(put_table(bytes, all, out))
 }

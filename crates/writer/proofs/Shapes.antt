@@ -1,38 +1,36 @@
 -- The bytes of a node are the encoding of its shape.
 --     node-bytes        where what is written of the nodes before encodes their shapes, so does what is written of a good node
---     fits              the sections of a table that passed its checks are as long as they say
---     node-encoded      of a table whose nodes and names are good, the bytes of each node encode its shape
+--     node-encoded      of a table that was read, the bytes of each node encode its shape
 -- Assumes nothing.
 use mathlib.Core.Path.{◌≡◌, refl, sym, ◌∙◌, ap, ap₂}
 use mathlib.Core.Bool.{true, ◌&&◌}
 use mathlib.Core.List.{List, [], ◌++◌, append_assoc, append-nil}
-use Prim.Native.Nat.{ℕ, zero, suc, ◌+◌, ◌-◌, ◌/◌, ◌≤◌, ◌<◌}
+use Prim.Native.Nat.{ℕ, zero, suc, ◌+◌, ◌-◌, ◌≤◌, ◌<◌}
 use native.Mathlib.Nat.{add-zero}
 use native.Mathlib.Numerals.{add-one}
 use native.Mathlib.Omega.{arith}
 use lib.Dec.{ltb, eqb}
-use lib.ListN.{length}
 use borrow.Author.Tests.{ltb-true, eqb-true}
 use Rattle.meaning.specs.Numbers.{leb128}
 use Rattle.meaning.specs.Shape.{Shape, blank, array_of, map_of, record_of, function_of, symbol_of}
 use Rattle.meaning.specs.Encode.{as_prim, array_bytes, map_bytes, text_bytes, texts_bytes, encode}
-use Rattle.meaning.specs.Table.{Node, Table, array_kind, map_kind, record_kind, function_kind, symbol_kind, node_of, link_of, text_of, texts_from, fields_from, parameters_from, node_shape, shape_in}
-use Rattle.meaning.specs.TableReading.{node_size}
+use Rattle.meaning.specs.Table as Meant
+use Rattle.meaning.specs.Table.{Node, array_kind, map_kind, record_kind, function_kind, symbol_kind, node_of, link_of, text_of, texts_from, fields_from, parameters_from, node_shape, shape_in}
 use Rattle.meaning.proofs.Rules.{both}
 use Rattle.meaning.proofs.Sound.{code-prim}
 use Rattle.payloads.specs.declared.first.Kind.TheVariants.{Record, Function, Symbol}
+use Rattle.tables.specs.declared.Table.{Table}
 use Rattle.tables.specs.declared.Way.TheVariants.{Bare, Named, Texts}
-use Rattle.tables.specs.Places.{text_place, node_at, link_at, target_kind, good_by, good_from, good_at}
-use Rattle.tables.proofs.Whole.{Fits, node-view, link-view, text-view}
+use Rattle.tables.specs.Places.{node_at, link_at, target_kind, good_by, good_from, good_at}
+use Rattle.tables.proofs.Whole.{node-view, link-view, text-view}
 use Rattle.extents.proofs.Sound.{cases, and_left, and_right, bare-below, named-below, named-inside, text-inside, array-has, map-has, record-has, function-has, symbol-has, every-good}
 use Rattle.extents.proofs.Shapes.{fields-count, parameters-count, texts-count, primitive_of, text-long, prim-held}
 use Rattle.forms.specs.declared.Form.{Form}
 use Rattle.forms.specs.Forms.{text_at, array_form, map_form, form_of}
-use Rattle.writer.specs.Bytes.{with_head, run_bytes, form_bytes, table_at, encoded_at, node_bytes}
-use Rattle.writer.specs.Sound.{Sound}
+use Rattle.writer.specs.Bytes.{with_head, run_bytes, form_bytes, table_of, encoded_at, node_bytes}
 
 -- T is a table whose links and texts are those of the rest; child says the shapes of the nodes before node i, and bytes what is written of them
-module _ (T : Table) (rest : List ℕ) (l m : ℕ) (linked : (x : ℕ) → x < l → link_of T x ≡ link_at rest x) (texts : (k : ℕ) → k < m → text_at rest l m k ≡ text_bytes (text_of T k)) (bytes : ℕ → List ℕ) (child : ℕ → Shape) (i : ℕ) (right : (t : ℕ) → t < i → bytes t ≡ encode (child t)) where
+module _ (T : Meant.Table) (rest : List ℕ) (l m : ℕ) (linked : (x : ℕ) → x < l → link_of T x ≡ link_at rest x) (texts : (k : ℕ) → k < m → text_at rest l m k ≡ text_bytes (text_of T k)) (bytes : ℕ → List ℕ) (child : ℕ → Shape) (i : ℕ) (right : (t : ℕ) → t < i → bytes t ≡ encode (child t)) where
   -- The bytes of good links to texts are those of the texts.
   texts-run : (b a : ℕ) → a + b ≤ l → good_from rest Texts i m a b ≡ true → run_bytes bytes rest l m Texts a b ≡ texts_bytes (texts_from T a b)
   unfolding good_from run_bytes texts_from texts_bytes
@@ -128,36 +126,44 @@ module _ (T : Table) (rest : List ℕ) (l m : ℕ) (linked : (x : ℕ) → x < l
         R : Form → Shape → Type 0
         R f s = form_bytes bytes rest l m f n.a n.b ≡ encode s
 
--- a table whose nodes and names are good
-module _ (nodes rest : List ℕ) (l m : ℕ) (sound : Sound nodes rest l m) where
-  -- how many nodes it has, and the table itself
+-- a table that was read
+module _ (table : Table) where
+  -- what it is, and its parts
+  abbrev T : Meant.Table
+  T = table_of table
+
+  abbrev nodes : List ℕ
+  nodes = table.nodes.now
+
+  abbrev rest : List ℕ
+  rest = table.rest.now
+
   abbrev n : ℕ
-  n = length nodes / node_size
+  n = table.count
 
-  abbrev T : Table
-  T = table_at nodes rest l m
+  abbrev l : ℕ
+  l = table.links
 
-  -- Its sections are as long as they say.
-  pub fits : Fits rest l m (length rest - text_place l m)
-  fits = record { links_few = sound.links_few; names_few = sound.names_few; text_few = omega (arith, sound.text_few); ends = omega (arith, sound.sections) }
+  abbrev m : ℕ
+  m = table.names
 
   -- The text of a name is that of the table.
   text-bytes : (k : ℕ) → k < m → text_at rest l m k ≡ text_bytes (text_of T k)
-  text-bytes k h = ap₂ (λ (z : ℕ) (w : List ℕ). leb128 z ++ w) (sym (text-long nodes rest n l m _ sound.whole fits sound.nodes_good sound.names_good k h)) (sym (text-view nodes rest n l m k h))
+  text-bytes k h = let s = table.sound in ap₂ (λ (z : ℕ) (w : List ℕ). leb128 z ++ w) (sym (text-long nodes rest n l m _ s.whole s.fits s.nodes_good s.names_good k h)) (sym (text-view nodes rest n l m k h))
 
   -- Where the bytes of the nodes before node i encode their shapes, so do its own.
-  next-encoded : (child : ℕ → Shape) (i : ℕ) → i < n → ((t : ℕ) → t < i → encoded_at nodes rest l m t ≡ encode (child t)) → ((t : ℕ) → t < i → as_prim (child t) ≡ primitive_of (node_at nodes t).kind) → encode (node_shape T child (node_of T i)) ≡ node_bytes nodes rest l m (node_at nodes i)
+  next-encoded : (child : ℕ → Shape) (i : ℕ) → i < n → ((t : ℕ) → t < i → encoded_at table t ≡ encode (child t)) → ((t : ℕ) → t < i → as_prim (child t) ≡ primitive_of (node_at nodes t).kind) → encode (node_shape T child (node_of T i)) ≡ node_bytes table (node_at nodes i)
   next-encoded child i h right prims =
-      ap (λ (x : Node). encode (node_shape T child x)) (node-view nodes rest n l m sound.whole i h)
-      ∙ sym (node-bytes T rest l m (link-view nodes rest n l m) text-bytes (encoded_at nodes rest l m) child i right nodes prims (node_at nodes i) (every-good nodes rest l m n sound.nodes_good i h))
+      ap (λ (x : Node). encode (node_shape T child x)) (node-view nodes rest n l m table.sound.whole i h)
+      ∙ sym (node-bytes T rest l m (link-view nodes rest n l m) text-bytes (encoded_at table) child i right nodes prims (node_at nodes i) (every-good nodes rest l m n table.sound.nodes_good i h))
 
   -- A node before has the primitive of its kind.
   kind-prim : (k t : ℕ) → t < n → as_prim (shape_in T k t) ≡ primitive_of (node_at nodes t).kind
-  kind-prim = prim-held nodes rest n l m _ sound.whole fits sound.nodes_good sound.names_good
+  kind-prim = let s = table.sound in prim-held nodes rest n l m _ s.whole s.fits s.nodes_good s.names_good
 
   -- the bytes of node i encode its shape, where at most k nodes below it are allowed and these are enough
   abbrev EncodedIn : ℕ → Type 0
-  EncodedIn k = (i : ℕ) → i ≤ k → i < n → encode (shape_in T k i) ≡ node_bytes nodes rest l m (node_at nodes i)
+  EncodedIn k = (i : ℕ) → i ≤ k → i < n → encode (shape_in T k i) ≡ node_bytes table (node_at nodes i)
 
   -- They do so for k, where they do for fewer than g and k is at most g.
   one_more : (g : ℕ) → ((k : ℕ) → k < g → EncodedIn k) → (k : ℕ) → k ≤ g → EncodedIn k
@@ -173,7 +179,7 @@ module _ (nodes rest : List ℕ) (l m : ℕ) (sound : Sound nodes rest l m) wher
   encoded-in zero k e = absurd (omega arith)
   encoded-in (suc g) k e = one_more g (encoded-in g) k (omega arith)
 
--- The bytes of a node encode its shape.
-pub node-encoded : (nodes rest : List ℕ) (links names : ℕ) → Sound nodes rest links names → (i : ℕ) → i < length nodes / node_size → encoded_at nodes rest links names i ≡ node_bytes nodes rest links names (node_at nodes i)
-unfolding encoded_at
-node-encoded nodes rest links names sound i h = encoded-in nodes rest links names sound (suc i) i (omega arith) i (omega arith) h
+  -- The bytes of a node encode its shape.
+  pub node-encoded : (i : ℕ) → i < n → encoded_at table i ≡ node_bytes table (node_at nodes i)
+  unfolding encoded_at
+  node-encoded i h = encoded-in (suc i) i (omega arith) i (omega arith) h

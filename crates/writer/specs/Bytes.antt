@@ -1,12 +1,12 @@
 -- The bytes of a node, as the code writes them: by places in the bytes of the nodes and in the rest of the table, from the bytes of the nodes before
 -- it. Proved to be the encoding of the node's shape (proofs/Shapes.antt, `node-encoded`). No public contract cites it.
-use Rattle.std.specs.Prelude.{ℕ, zero, suc, ◌/◌, List, [], ◌∷◌, ◌++◌, length}
-use Rattle.meaning.specs.Numbers.{two_bytes}
+use Rattle.std.specs.Prelude.{ℕ, zero, suc, List, [], ◌∷◌, ◌++◌, length}
 use Rattle.meaning.specs.Encode.{blank_bytes, encode}
-use Rattle.meaning.specs.Table.{Node, Table, shape_of}
-use Rattle.meaning.specs.TableReading.{node_size}
+use Rattle.meaning.specs.Table as Meant
+use Rattle.meaning.specs.Table.{Node, shape_of}
 use Rattle.payloads.specs.declared.first.Kind.{Kind}
 use Rattle.steps.specs.Heads.{head_bytes}
+use Rattle.tables.specs.declared.Table.{Table}
 use Rattle.tables.specs.declared.Way.{Way}
 use Rattle.tables.specs.declared.Way.TheVariants.{Bare, Named, Texts}
 use Rattle.tables.specs.Places.{table_in, link_at}
@@ -34,22 +34,18 @@ module _ (child : ℕ → List ℕ) (rest : List ℕ) (links names : ℕ) where
   abbrev pub form_bytes : Form → ℕ → ℕ → List ℕ
   form_bytes (form.Byte b) first due = b ∷ []
   form_bytes form.Blank first due = blank_bytes first
-  form_bytes (form.List kind way counted c) first due = with_head kind (count_bytes counted c ++ run_bytes way first due)
+  form_bytes (form.List kind way c) first due = with_head kind (count_bytes c ++ run_bytes way first due)
 
--- a table in bytes, of so many nodes
-abbrev pub whole : ℕ → List ℕ → List ℕ → List ℕ
-whole count nodes rest = two_bytes count ++ (nodes ++ rest)
+-- what a table that was read is, and the encoding of a node's shape
+abbrev pub table_of : Table → Meant.Table
+table_of t = table_in t.nodes.now t.rest.now t.count t.links t.names
 
--- the table that the bytes are, and the encoding of a node's shape
-abbrev pub table_at : List ℕ → List ℕ → ℕ → ℕ → Table
-table_at nodes rest links names = table_in nodes rest (length nodes / node_size) links names
-
-unfoldable pub encoded_at : List ℕ → List ℕ → ℕ → ℕ → ℕ → List ℕ
-encoded_at nodes rest links names i = encode (shape_of (table_at nodes rest links names) i)
+unfoldable pub encoded_at : Table → ℕ → List ℕ
+encoded_at t i = encode (shape_of (table_of t) i)
 
 -- the bytes of a node, and of links
-abbrev pub node_bytes : List ℕ → List ℕ → ℕ → ℕ → Node → List ℕ
-node_bytes nodes rest links names n = form_bytes (encoded_at nodes rest links names) rest links names (form_of nodes rest n) n.a n.b
+abbrev pub node_bytes : Table → Node → List ℕ
+node_bytes t n = form_bytes (encoded_at t) t.rest.now t.links t.names (form_of t.nodes.now t.rest.now n) n.a n.b
 
-abbrev pub links_bytes : List ℕ → List ℕ → ℕ → ℕ → Way → ℕ → ℕ → List ℕ
-links_bytes nodes rest links names way a b = run_bytes (encoded_at nodes rest links names) rest links names way a b
+abbrev pub links_bytes : Table → Way → ℕ → ℕ → List ℕ
+links_bytes t way a b = run_bytes (encoded_at t) t.rest.now t.links t.names way a b

@@ -1,22 +1,13 @@
--- The bytes of what a sheet has for a blank.
---     found-length     they are as many as their place says
---     found-one        where they are one, it is the byte that stands there
+-- A part of a slice, as the code has it.
+--     part-slice     it is the slice's bytes from a place up to another
 -- Assumes nothing.
-use mathlib.Core.Path.{◌≡◌, sym, ap, ◌∙◌}
-use mathlib.Core.List.{List, [], ◌∷◌}
-use Prim.Native.Nat.{ℕ, suc, ◌-◌}
+use mathlib.Core.Path.{◌≡◌, sym}
+use mathlib.Core.List.{List}
+use Prim.Native.Nat.{ℕ, ◌+◌, ◌-◌, ◌≤◌}
 use native.Mathlib.Omega.{arith}
-use lib.ListN.{length, get_or}
-use lib.Seq.{slice_empty, slice-cons, length-slice}
-use Rattle.meaning.specs.Encode.{encode}
-use Rattle.sheets.specs.Index.{blank_in, PartIs, part}
+use lib.ListN.{take, drop}
+use lib.Seq.{slice}
+use Rattle.std.proofs.lemmas.List.{drop-take}
 
--- What a sheet has for a blank is as long as its place.
-pub found-length : (s : List ℕ) (n start end d : ℕ) → PartIs s (blank_in s n) (part start end d) → length (encode (blank_in s n)) ≡ end - start
-found-length s n start end d f = ap length (sym f.is) ∙ length-slice start end s f.inside
-
--- What is one byte long is the byte that stands there.
-pub found-one : (s : List ℕ) (n start end d : ℕ) → PartIs s (blank_in s n) (part start end d) → end - start ≡ 1 → encode (blank_in s n) ≡ get_or s start 0 ∷ []
-found-one s n start end d f e =
-    let z : end ≡ suc start = omega (arith, f.some) in
-    sym f.is ∙ slice-cons start end s 0 f.some f.inside ∙ ap (λ (w : List ℕ). get_or s start 0 ∷ w) (rw z (slice_empty (suc start) s))
+pub part-slice : (from to : ℕ) (s : List ℕ) → from ≤ to → take (to - from) (drop from s) ≡ slice from to s
+part-slice from to s h = let e : from + (to - from) ≡ to = omega arith in sym (rw e at (drop-take from (to - from) s))

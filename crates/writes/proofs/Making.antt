@@ -4,11 +4,12 @@
 use mathlib.Core.Path.{◌≡◌, refl, sym, ap, ◌∙◌}
 use mathlib.Core.List.{List, [], ◌∷◌, ◌++◌, append_assoc, append-nil}
 use mathlib.Core.Option.{Option, none, some}
-use Prim.Native.Nat.{ℕ, ◌+◌, ◌*◌}
+use Rattle.std.specs.Prelude.{Some}
+use Prim.Native.Nat.{ℕ}
 use native.Mathlib.Omega.{arith}
 use borrow.Author.Tests.{lt-ltb, le-ltb}
 use Rattle.meaning.specs.Shape.{Primitive, Tree, fields, parameters, Shape, no_fields, field, no_parameters, parameter}
-use Rattle.meaning.specs.FirstByte.{code, short_blanks, array_byte, map_byte, Class, whole, packed, long, unassigned, class_of}
+use Rattle.meaning.specs.FirstByte.{short_blanks, Class, whole, packed, long, unassigned, class_of}
 use Rattle.meaning.specs.Encode.{as_prim, array_bytes, map_bytes, encode}
 use Rattle.meaning.specs.Parts.{bare, field_items, parameter_items, name_bytes}
 use Rattle.meaning.specs.Parts as Parts
@@ -21,17 +22,17 @@ use Rattle.writes.specs.Writes.{Items, items, more, list_bytes, short_bytes, wri
 use Rattle.writes.proofs.Peeks.{code_if, prim-encoded}
 
 -- An Array is written as it is encoded,
-array_written : (o : Option Primitive) (w : List ℕ) → list_bytes Array [] (items (more (some 0) (code_if o)) w) ≡ array_bytes o w
+array_written : (o : Option Primitive) (w : List ℕ) → list_bytes Array [] (items (more (Some 0) (code_if o)) w) ≡ array_bytes o w
 unfolding array_bytes
 array_written none w = refl
-array_written (some p) w = rw (lt-ltb 0 (array_byte (5 * 0 + code p)) (omega arith)) (ap (λ (n : ℕ). n ∷ []) (omega arith))
+array_written (some p) w = (ap (λ (n : ℕ). n ∷ []) (omega arith))
 
 -- and so is a Map.
-map-written : (o q : Option Primitive) (w : List ℕ) → list_bytes Map [] (items (more (more (some 0) (code_if o)) (code_if q)) w) ≡ map_bytes o q w
+map-written : (o q : Option Primitive) (w : List ℕ) → list_bytes Map [] (items (more (more (Some 0) (code_if o)) (code_if q)) w) ≡ map_bytes o q w
 unfolding map_bytes
 map-written none q w = refl
 map-written (some p) none w = refl
-map-written (some p) (some q) w = rw (lt-ltb 0 (map_byte 0 (5 * (5 * 0 + code p) + code q)) (omega arith)) (ap (λ (n : ℕ). n ∷ []) (omega arith))
+map-written (some p) (some q) w = (ap (λ (n : ℕ). n ∷ []) (omega arith))
 
 -- what is made of a byte, by what the byte says
 MadeBy : (ℕ → Shape) → ℕ → Class → Type 0

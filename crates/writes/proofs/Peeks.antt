@@ -1,21 +1,22 @@
 -- What a look tells of what the pass makes.
---     prim-low, prim-high     a byte before or after the primitives is none
---     prim-long               nor is what is not one byte
 --     prim-encoded            the primitive that an encoding is, is that of its shape
 --     prim-blank              a blank that stays is none
+--     peek-small              the number that a look says is a primitive's
 --     look-nothing .. -blank  what a look at a shape says is right
---     array-packed .. map-half  what it says of a list of shapes
+--     array_long .. map-packed  what it says of a list of shapes
 -- Assumes nothing.
-use mathlib.Core.Path.{◌≡◌, refl, ap, ◌∙◌}
+use mathlib.Core.Path.{◌≡◌, refl, ap}
 use mathlib.Core.Bool.{Bool, true, false}
-use mathlib.Core.List.{List, [], ◌∷◌}
-use mathlib.Core.Option.{Option, none, some}
-use Prim.Native.Nat.{ℕ, ◌+◌, ◌-◌, ◌≤◌, ◌<◌}
+use mathlib.Core.List.{List, [], ◌∷◌, ◌++◌}
+use mathlib.Core.Option.{none, some}
+use mathlib.Core.Option as Core
+use Prim.Native.Nat.{ℕ, ◌+◌, ◌*◌, ◌-◌, ◌≤◌, ◌<◌}
 use native.Mathlib.Omega.{arith}
 use lib.ListN.{length, get_or}
 use lib.Seq.{slice, slice_empty, length-slice}
 use lib.Dec.{ltb, eqb}
 use borrow.Author.Tests.{lt-ltb, le-ltb, ltb-true, ltb-false}
+use Rattle.std.specs.Prelude.{Option, Some, None}
 use Rattle.meaning.specs.Rules.{◌⇒◌∣◌}
 use Rattle.meaning.specs.Shape.{Primitive, Shape, blank}
 use Rattle.meaning.specs.FirstByte.{code, prim_byte, array_byte, map_byte}
@@ -27,193 +28,197 @@ use Rattle.payloads.specs.Payload.{named, shaped, size_at}
 use Rattle.payloads.specs.declared.first.Kind.{Kind}
 use Rattle.payloads.specs.declared.first.Kind.TheVariants.{Array, Map, Record, Function, Symbol, Variable}
 use Rattle.payloads.specs.declared.first.First.TheVariants.{Unassigned, Short, Long}
+use Rattle.steps.specs.Heads.{head_bytes}
 use Rattle.steps.specs.Steps.{head_size, first_at, past_long, past_name, list_at}
 use Rattle.steps.specs.declared.Listing.{Listing}
 use Rattle.steps.specs.Pass.{Came, came, Passer, long_blank, pass_items, pass_list, pass_shape}
 use Rattle.steps.proofs.Passing.{below, shape-none, shape-short, shape-symbol, blank_cut, shape-blank, shape-list}
+use Rattle.writes.specs.declared.Packed.{Packed}
 use Rattle.writes.specs.declared.Peek.{Peek}
-use Rattle.writes.specs.Writes.{prim_code, code_said, Items, more, pack_byte, list_bytes, short_bytes, writes, Peeked, PeekIs, Packed, PackedOf, PackedIs}
+use Rattle.writes.specs.Writes.{prim_code, Items, more, pack_byte, byte_or, list_bytes, short_bytes, writes, peek_said, PeekIs, packed_said, PackedIs}
 
 -- A byte before the primitives is none,
-pub prim-low : (b : ℕ) → b < prim_byte 0 → prim_code (b ∷ []) ≡ none
+prim-low : (b : ℕ) → b < prim_byte 0 → prim_code (b ∷ []) ≡ None
 prim-low b h = rw (lt-ltb b 32 h)
 
 -- and so is one after them.
-pub prim-high : (b : ℕ) → prim_byte 5 ≤ b → prim_code (b ∷ []) ≡ none
+prim-high : (b : ℕ) → prim_byte 5 ≤ b → prim_code (b ∷ []) ≡ None
 prim-high b h = rw (le-ltb b 32 (omega arith), le-ltb b 37 h)
 
 -- What is not one byte is no primitive.
-pub prim-long : (x : List ℕ) → (length x ≡ 1 → ⊥) → prim_code x ≡ none
+prim-long : (x : List ℕ) → (length x ≡ 1 → ⊥) → prim_code x ≡ None
 prim-long [] h = refl
 prim-long (b ∷ []) h = absurd (h refl)
 prim-long (b ∷ c ∷ x) h = refl
 
--- No primitive is not some primitive.
-never : {c : ℕ} → none ≡ some c → ⊥
-never h = let z : ◌≡◌ {A = ℕ} 0 1 = cc in omega arith
-
 -- A primitive's number is below 5.
-pub prim-small : (x : List ℕ) (c : ℕ) → prim_code x ≡ some c → c < 5
-prim-small [] c h = absurd (never h)
+prim-small : (x : List ℕ) (c : ℕ) → prim_code x ≡ Some c → c < 5
+prim-small [] c h = absurd (cc)
 prim-small (b ∷ []) c h = go (ltb b 32) (ltb b 37) refl h
   where
-    go : (t u : Bool) → ltb b 37 ≡ u → (t ⇒ none ∣ λ _. u ⇒ some (b - 32) ∣ λ _. none) ≡ some c → c < 5
-    go true u p e = absurd (never e)
+    go : (t u : Bool) → ltb b 37 ≡ u → (t ⇒ None ∣ λ _. u ⇒ Some (b - 32) ∣ λ _. None) ≡ Some c → c < 5
+    go true u p e = absurd (cc)
     go false true p e = let z : b - 32 ≡ c = cc in omega (arith, ltb-true b 37 p)
-    go false false p e = absurd (never e)
-prim-small (b ∷ d ∷ x) c h = absurd (never h)
+    go false false p e = absurd (cc)
+prim-small (b ∷ d ∷ x) c h = absurd (cc)
 
 -- the number of a primitive, where there is one
-abbrev pub code_if : Option Primitive → Option ℕ
-code_if none = none
-code_if (some p) = some (code p)
+abbrev pub code_if : Core.Option Primitive → Option ℕ
+code_if none = None
+code_if (some p) = Some (code p)
 
 -- The primitive that an encoding is, is that of its shape.
 pub prim-encoded : (t : Shape) → prim_code (encode t) ≡ code_if (as_prim t)
 prim-encoded =
     prim-by prim_code code_if
-    (λ p. rw (le-ltb (prim_byte (code p)) 32 (omega arith), lt-ltb (prim_byte (code p)) 37 (omega (arith, code-small p))) (ap some (omega arith)))
+    (λ p. rw (le-ltb (prim_byte (code p)) 32 (omega arith), lt-ltb (prim_byte (code p)) 37 (omega (arith, code-small p))) (ap Some (omega arith)))
     prim-low
     prim-high
     (λ k q. refl)
 
 -- A blank that stays is none.
-pub prim-blank : (n : ℕ) (t : Shape) → t ≡ blank n → prim_code (encode t) ≡ none
+pub prim-blank : (n : ℕ) (t : Shape) → t ≡ blank n → prim_code (encode t) ≡ None
 unfolding as_prim
 prim-blank n t e = rw e (prim-encoded (blank n))
 
--- The form of one byte of a list comes after the primitives.
-pack-high : (kind : Kind) (o : Option ℕ) → 0 < pack_byte kind o → prim_byte 5 ≤ pack_byte kind o
-pack-high Array none h = absurd (omega arith)
-pack-high Array (some c) h = omega arith
-pack-high Map none h = absurd (omega arith)
-pack-high Map (some c) h = omega arith
-pack-high Record o h = absurd (omega arith)
-pack-high Function o h = absurd (omega arith)
-pack-high Symbol o h = absurd (omega arith)
-pack-high Variable o h = absurd (omega arith)
-
--- A list is no primitive.
-prim-items : (kind : Kind) (count : List ℕ) (a : Items) → prim_code (list_bytes kind count a) ≡ none
-prim-items kind count a =
-    rule (λ (w : List ℕ). prim_code w ≡ none) (ltb 0 (pack_byte kind a.code)) _ _
-    (λ p. prim-high _ (pack-high kind a.code (ltb-true _ _ p)))
-    (λ p. refl)
-
--- A look that says the code of the bytes, and the place after them, is right.
-peeked : (x : List ℕ) (next : ℕ) (r : Peek) → r.code ≡ code_said (prim_code x) → r.next ≡ next → Peeked (prim_code x) next r
-peeked x next r e f = go (prim_code x) refl e
+-- A list is no primitive: its form of one byte comes after the primitives.
+prim-items : (kind : Kind) (count : List ℕ) (a : Items) → prim_code (list_bytes kind count a) ≡ None
+prim-items kind count a = go kind a.code
   where
-    go : (o : Option ℕ) → prim_code x ≡ o → r.code ≡ code_said o → Peeked o next r
-    go none p e = e
-    go (some c) p e = (e, f, prim-small x c p)
+    go : (k : Kind) (o : Option ℕ) → prim_code (byte_or (pack_byte k o) (head_bytes kind (length (count ++ a.bytes)) ++ (count ++ a.bytes))) ≡ None
+    go Array None = refl
+    go Array (Some c) = prim-high (array_byte c) (omega arith)
+    go Map None = refl
+    go Map (Some c) = prim-high (map_byte 0 c) (omega arith)
+    go Record o = refl
+    go Function o = refl
+    go Symbol o = refl
+    go Variable o = refl
 
 -- A Symbol is no primitive.
-prim-symbol : (s : List ℕ) (at : ℕ) → prim_code (slice at (past_long s at) s) ≡ none
+prim-symbol : (s : List ℕ) (at : ℕ) → prim_code (slice at (past_long s at) s) ≡ None
 unfolding past_long
 prim-symbol s at =
-    rule (λ (p : ℕ). prim_code (slice at p s) ≡ none) (ltb (length s - at) head_size) at _ (λ h. rw (slice_empty at s)) λ h.
-    rule (λ (p : ℕ). prim_code (slice at p s) ≡ none) (ltb (length s - at - head_size) (size_at s (at + 1))) at _ (λ k. rw (slice_empty at s)) λ k.
+    rule (λ (p : ℕ). prim_code (slice at p s) ≡ None) (ltb (length s - at) head_size) at _ (λ h. rw (slice_empty at s)) λ h.
+    rule (λ (p : ℕ). prim_code (slice at p s) ≡ None) (ltb (length s - at - head_size) (size_at s (at + 1))) at _ (λ k. rw (slice_empty at s)) λ k.
     let end : ℕ = at + head_size + size_at s (at + 1) in
     let n = length-slice at end s (omega (arith, ltb-false (length s - at) head_size h, ltb-false (length s - at - head_size) (size_at s (at + 1)) k)) in
     prim-long (slice at end s) (λ l. omega arith)
 
 -- Nor is a list, cut short or not.
-prim-list : (σ : ℕ → Shape) (left : ℕ) (inner : Passer (List ℕ)) (s : List ℕ) (at : ℕ) (kind : Kind) → prim_code (pass_list (writes σ) left inner s at kind).made ≡ none
+prim-list : (σ : ℕ → Shape) (left : ℕ) (inner : Passer (List ℕ)) (s : List ℕ) (at : ℕ) (kind : Kind) → prim_code (pass_list (writes σ) left inner s at kind).made ≡ None
 unfolding pass_list
 prim-list σ left inner s at kind =
-    rule (λ (r : Came (List ℕ)). prim_code r.made ≡ none) (eqb left 0) (came at []) _ (λ h. refl) λ h.
-    rule (λ (r : Came (List ℕ)). prim_code r.made ≡ none) (ltb (length s - at) head_size) (came at []) _ (λ k. refl) λ k.
+    rule (λ (r : Came (List ℕ)). prim_code r.made ≡ None) (eqb left 0) (came at []) _ (λ h. refl) λ h.
+    rule (λ (r : Came (List ℕ)). prim_code r.made ≡ None) (ltb (length s - at) head_size) (came at []) _ (λ k. refl) λ k.
     let l : Listing = list_at s (at + head_size) kind in
     prim-items kind (slice (at + head_size) l.from s) (pass_items (writes σ) inner kind l.count s l.from (writes σ).start).made
 
-module _ (σ : ℕ → Shape) (s : List ℕ) (at : ℕ) (r : Peek) where
+module _ (σ : ℕ → Shape) (s : List ℕ) (at : ℕ) where
   -- Where no shape stands, none is seen.
-  pub look-nothing : first_at s at ≡ Unassigned → r.code ≡ 5 → PeekIs σ s at r
-  look-nothing f e left = rw (shape-none (writes σ) left s at f) e
+  pub look-nothing : first_at s at ≡ Unassigned → PeekIs σ s at None
+  look-nothing f left = rw (shape-none (writes σ) left s at f)
 
   -- Of a shape of one byte its bytes are seen.
-  pub look-short : (levels : ℕ) → first_at s at ≡ Short levels → r.next ≡ at + 1 → r.code ≡ code_said (prim_code (short_bytes σ (get_or s at 0))) → PeekIs σ s at r
-  look-short levels f n e left = rw (shape-short (writes σ) left s at f) (peeked (short_bytes σ (get_or s at 0)) (at + 1) r e n)
+  pub look-short : (levels : ℕ) (o : Option ℕ) (r : Option Peek) → first_at s at ≡ Short levels → o ≡ prim_code (short_bytes σ (get_or s at 0)) → r ≡ peek_said o (at + 1) → PeekIs σ s at r
+  look-short levels o r f e g left = rw (shape-short (writes σ) left s at f, g, e)
 
   module _ (kind : Kind) (f : first_at s at ≡ Long kind) where
     -- No list is a primitive,
-    pub look-list : shaped kind ≡ true → r.code ≡ 5 → PeekIs σ s at r
-    look-list h e left = rw (shape-list (writes σ) left s at f h, prim-list σ left (below (writes σ) left) s at kind) e
+    pub look-list : shaped kind ≡ true → PeekIs σ s at None
+    look-list h left = rw (shape-list (writes σ) left s at f h, prim-list σ left (below (writes σ) left) s at kind)
 
     -- no Symbol,
-    pub look-symbol : shaped kind ≡ false → named kind ≡ true → r.code ≡ 5 → PeekIs σ s at r
-    look-symbol h n e left = rw (shape-symbol (writes σ) left s at f h n, prim-symbol s at) e
+    pub look-symbol : shaped kind ≡ false → named kind ≡ true → PeekIs σ s at None
+    look-symbol h n left = rw (shape-symbol (writes σ) left s at f h n, prim-symbol s at)
 
     -- and no blank that is cut short;
-    pub look-cut : shaped kind ≡ false → named kind ≡ false → length s - at < long_blank → r.code ≡ 5 → PeekIs σ s at r
-    look-cut h n l e left = rw (blank_cut (writes σ) left s at f h n l) e
+    pub look-cut : shaped kind ≡ false → named kind ≡ false → length s - at < long_blank → PeekIs σ s at None
+    look-cut h n l left = rw (blank_cut (writes σ) left s at f h n l)
 
     -- of another blank what becomes of it is seen.
-    pub look-blank : shaped kind ≡ false → named kind ≡ false → long_blank ≤ length s - at → r.next ≡ at + long_blank
-        → r.code ≡ code_said (prim_code (encode (σ (size_at s (at + head_size))))) → PeekIs σ s at r
-    look-blank h n l g e left = rw (shape-blank (writes σ) left s at f h n l) (peeked (encode (σ (size_at s (at + head_size)))) (at + long_blank) r e g)
+    pub look-blank : shaped kind ≡ false → named kind ≡ false → long_blank ≤ length s - at → (o : Option ℕ) (r : Option Peek)
+        → o ≡ prim_code (encode (σ (size_at s (at + head_size)))) → r ≡ peek_said o (at + long_blank) → PeekIs σ s at r
+    look-blank h n l o r e g left = rw (shape-blank (writes σ) left s at f h n l, g, e)
 
--- A look says that no primitive is made, or which one and the place after it.
-by-look : (P : Option ℕ → Type 0) (o : Option ℕ) (next : ℕ) (r : Peek) → Peeked o next r → (r.code ≡ 5 → P none) → (r.code < 5 → r.next ≡ next → P (some r.code)) → P o
-by-look P none next r p f g = f p
-by-look P (some c) next r p f g = rw (← p.0) (g (omega (arith, p.0, p.2)) p.1)
+-- The number that a look says is a primitive's.
+pub peek-small : (σ : ℕ → Shape) (s : List ℕ) (at : ℕ) (p : Peek) → PeekIs σ s at (Some p) → p.code < 5
+peek-small σ s at p h = go (prim_code x.made) refl (h 0)
+  where
+    x : Came (List ℕ)
+    x = pass_shape (writes σ) 0 s at
 
--- A look that says 0 is right where a list keeps its payload.
-pub packed_none : (next : ℕ) (r : Peek) → r.code ≡ 0 → Packed 0 next r
-packed_none next r e = (e, λ h. absurd (omega arith))
+    go : (o : Option ℕ) → prim_code x.made ≡ o → Some p ≡ peek_said o x.next → p.code < 5
+    go None e k = absurd (cc)
+    go (Some c) e k = let z : p.code ≡ c = cc in rw z (prim-small x.made c e)
 
-module _ (σ : ℕ → Shape) (s : List ℕ) (from : ℕ) (r : Peek) where
-  -- An Array of a primitive is one byte,
-  pub array-packed : (p : Peek) → PeekIs σ s from p → p.code < 5 → r.code ≡ array_byte p.code → r.next ≡ p.next → PackedIs σ s from Array r
+-- a form of one byte, and the place after its list
+abbrev packed : ℕ → ℕ → Option Packed
+packed next b = Some (record { next = next; byte = b })
+
+module _ (σ : ℕ → Shape) (s : List ℕ) (from : ℕ) where
+  -- An Array of no primitive keeps its payload,
+  pub array_long : PeekIs σ s from None → PackedIs σ s from Array None
   unfolding pass_items past_name
-  array-packed p pk l e n left =
-      let x : Came (List ℕ) = pass_shape (writes σ) left s from in
-      by-look (λ (o : Option ℕ). Packed (pack_byte Array (more (some 0) o)) x.next r) (prim_code x.made) x.next p (pk left)
-      (λ z. absurd (omega arith))
-      (λ m g. (omega arith, λ _. n ∙ g))
+  array_long pk left = let x : Came (List ℕ) = pass_shape (writes σ) left s from in go (prim_code x.made) x.next (pk left)
+    where
+      go : (o : Option ℕ) (next : ℕ) → None ≡ peek_said o next → None ≡ packed_said (pack_byte Array (more (Some 0) o)) next
+      go None next h = refl
+      go (Some c) next h = absurd (cc)
 
-  -- another is not,
-  pub array_long : (p : Peek) → PeekIs σ s from p → 5 ≤ p.code → r.code ≡ 0 → PackedIs σ s from Array r
+  -- and so does a Map whose key is none.
+  pub map-long : PeekIs σ s from None → PackedIs σ s from Map None
   unfolding pass_items past_name
-  array_long p pk l e left =
-      let x : Came (List ℕ) = pass_shape (writes σ) left s from in
-      by-look (λ (o : Option ℕ). Packed (pack_byte Array (more (some 0) o)) x.next r) (prim_code x.made) x.next p (pk left)
-      (λ z. packed_none x.next r e)
-      (λ m g. absurd (omega arith))
-
-  -- nor is a Map whose key is no primitive.
-  pub map-long : (p : Peek) → PeekIs σ s from p → 5 ≤ p.code → r.code ≡ 0 → PackedIs σ s from Map r
-  unfolding pass_items past_name
-  map-long p pk l e left =
+  map-long pk left =
       let x : Came (List ℕ) = pass_shape (writes σ) left s from in
       let y : Came (List ℕ) = pass_shape (writes σ) left s x.next in
-      by-look (λ (o : Option ℕ). Packed (pack_byte Map (more (more (some 0) o) (prim_code y.made))) y.next r) (prim_code x.made) x.next p (pk left)
-      (λ z. packed_none y.next r e)
-      (λ m g. absurd (omega arith))
+      go (prim_code x.made) (prim_code y.made) x.next y.next (pk left)
+    where
+      go : (o q : Option ℕ) (next after : ℕ) → None ≡ peek_said o next → None ≡ packed_said (pack_byte Map (more (more (Some 0) o) q)) after
+      go None q next after h = refl
+      go (Some c) q next after h = absurd (cc)
 
-  module _ (p q : Peek) (pk : PeekIs σ s from p) (l : p.code < 5) (qk : PeekIs σ s p.next q) where
-    -- A Map whose key is a primitive is what the look at its value says.
-    map-by : (left : ℕ) → ((w : Option ℕ) (next : ℕ) → Peeked w next q → Packed (pack_byte Map (more (more (some 0) (some p.code)) w)) next r)
-        → PackedOf Map (pass_items (writes σ) (pass_shape (writes σ) left) Map 2 s from (writes σ).start) r
+  -- An Array of a primitive is one byte.
+  pub array-packed : (p : Peek) (b : ℕ) → PeekIs σ s from (Some p) → b ≡ array_byte p.code → PackedIs σ s from Array (packed p.next b)
+  unfolding pass_items past_name
+  array-packed p b pk e left = let x : Came (List ℕ) = pass_shape (writes σ) left s from in go (prim_code x.made) x.next (pk left)
+    where
+      go : (o : Option ℕ) (next : ℕ) → Some p ≡ peek_said o next → packed p.next b ≡ packed_said (pack_byte Array (more (Some 0) o)) next
+      go None next h = absurd (cc)
+      go (Some c) next h =
+          let z : p.code ≡ c = cc in
+          let w : p.next ≡ next = cc in
+          let y : b ≡ array_byte (5 * 0 + c) = omega arith in
+          cc
+
+  module _ (p : Peek) (pk : PeekIs σ s from (Some p)) where
+    -- A Map whose key is a primitive is what its value says:
+    map-by : (r : Option Packed) → ((left : ℕ) → r ≡ packed_said (pack_byte Map (more (more (Some 0) (Some p.code)) (prim_code (pass_shape (writes σ) left s p.next).made))) (pass_shape (writes σ) left s p.next).next)
+        → PackedIs σ s from Map r
     unfolding pass_items past_name
-    map-by left k =
-        let x : Came (List ℕ) = pass_shape (writes σ) left s from in
-        let y : ℕ → Came (List ℕ) = pass_shape (writes σ) left s in
-        by-look (λ (o : Option ℕ). Packed (pack_byte Map (more (more (some 0) o) (prim_code (y x.next).made))) (y x.next).next r) (prim_code x.made) x.next p (pk left)
-        (λ z. absurd (omega arith))
-        (λ m g. rw (← g) (k (prim_code (y p.next).made) (y p.next).next (qk left)))
+    map-by r k left = let x : Came (List ℕ) = pass_shape (writes σ) left s from in go (prim_code x.made) x.next (pk left)
+      where
+        go : (o : Option ℕ) (next : ℕ) → Some p ≡ peek_said o next
+            → r ≡ packed_said (pack_byte Map (more (more (Some 0) o) (prim_code (pass_shape (writes σ) left s next).made))) (pass_shape (writes σ) left s next).next
+        go None next h = absurd (cc)
+        go (Some c) next h = let z : p.code ≡ c = cc in let w : p.next ≡ next = cc in rw (← z, ← w) (k left)
 
-    -- A Map of two primitives is one byte,
-    pub map-packed : q.code < 5 → r.code ≡ map_byte p.code q.code → r.next ≡ q.next → PackedIs σ s from Map r
-    map-packed m e n left =
-        map-by left λ w next k. by-look (λ (o : Option ℕ). Packed (pack_byte Map (more (more (some 0) (some p.code)) o)) next r) w next q k
-        (λ z. absurd (omega arith))
-        (λ d g. (omega arith, λ _. n ∙ g))
+    -- it keeps its payload where that is none,
+    pub map-half : PeekIs σ s p.next None → PackedIs σ s from Map None
+    map-half qk = map-by None (λ left. go (prim_code (pass_shape (writes σ) left s p.next).made) (pass_shape (writes σ) left s p.next).next (qk left))
+      where
+        go : (o : Option ℕ) (next : ℕ) → None ≡ peek_said o next → None ≡ packed_said (pack_byte Map (more (more (Some 0) (Some p.code)) o)) next
+        go None next h = refl
+        go (Some c) next h = absurd (cc)
 
-    -- another is not.
-    pub map-half : 5 ≤ q.code → r.code ≡ 0 → PackedIs σ s from Map r
-    map-half m e left =
-        map-by left λ w next k. by-look (λ (o : Option ℕ). Packed (pack_byte Map (more (more (some 0) (some p.code)) o)) next r) w next q k
-        (λ z. packed_none next r e)
-        (λ d g. absurd (omega arith))
+    -- and is one byte where both are primitives.
+    pub map-packed : (q : Peek) (b : ℕ) → PeekIs σ s p.next (Some q) → b ≡ map_byte p.code q.code → PackedIs σ s from Map (packed q.next b)
+    map-packed q b qk e = map-by (packed q.next b) (λ left. go (prim_code (pass_shape (writes σ) left s p.next).made) (pass_shape (writes σ) left s p.next).next (qk left))
+      where
+        go : (o : Option ℕ) (next : ℕ) → Some q ≡ peek_said o next → packed q.next b ≡ packed_said (pack_byte Map (more (more (Some 0) (Some p.code)) o)) next
+        go None next h = absurd (cc)
+        go (Some c) next h =
+            let z : q.code ≡ c = cc in
+            let w : q.next ≡ next = cc in
+            let y : b ≡ map_byte 0 (5 * (5 * 0 + p.code) + c) = omega arith in
+            cc

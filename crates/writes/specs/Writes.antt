@@ -1,7 +1,6 @@
 -- The bytes of a shape whose blanks are filled, and the pass over the bytes that writes them (steps/specs/Pass.antt). Contracts between our own
 -- crates cite it, no public one does.
-use Rattle.std.specs.Prelude.{ℕ, ◌+◌, ◌*◌, ◌-◌, ◌≤◌, ◌<◌, ◌≡◌, List, [], ◌∷◌, ◌++◌, length, ltb}
-use Rattle.std.proofs.Math.Option.{Option, none, some}
+use Rattle.std.specs.Prelude.{ℕ, ◌+◌, ◌*◌, ◌-◌, ◌≤◌, ◌<◌, ◌≡◌, List, [], ◌∷◌, ◌++◌, length, ltb, Option, Some, None}
 use Rattle.meaning.specs.Rules.{◌⇒◌∣◌}
 use Rattle.meaning.specs.Limits.{max_bytes}
 use Rattle.meaning.specs.Shape.{Shape}
@@ -16,20 +15,16 @@ use Rattle.steps.specs.Heads.{head_bytes}
 use Rattle.steps.specs.Pass.{Came, Pass, pass_items, pass_shape}
 use Rattle.writes.specs.declared.Places.{Places}
 use Rattle.writes.specs.declared.Peek.{Peek}
+use Rattle.writes.specs.declared.Packed.{Packed}
 
 -- the number of the primitive whose encoding the bytes are
 abbrev pub prim_code : List ℕ → Option ℕ
-prim_code [] = none
+prim_code [] = None
 prim_code (b ∷ []) =
-    ltb b (prim_byte 0) ⇒ none ∣ λ _.
-    ltb b (prim_byte 5) ⇒ some (b - prim_byte 0) ∣ λ _.
-    none
-prim_code (b ∷ c ∷ w) = none
-
--- as the code has it: 5 for none
-abbrev pub code_said : Option ℕ → ℕ
-code_said none = 5
-code_said (some c) = c
+    ltb b (prim_byte 0) ⇒ None ∣ λ _.
+    ltb b (prim_byte 5) ⇒ Some (b - prim_byte 0) ∣ λ _.
+    None
+prim_code (b ∷ c ∷ w) = None
 
 -- the items of a list so far: the number of the form of one byte, while all are primitives, and their bytes
 pub record Items : Type 0 where
@@ -41,25 +36,28 @@ items c b = record { code = c; bytes = b }
 
 -- primitives one after the other, as the packed Map counts them
 abbrev pub more : Option ℕ → Option ℕ → Option ℕ
-more none q = none
-more (some p) none = none
-more (some p) (some q) = some (5 * p + q)
+more None q = None
+more (Some p) None = None
+more (Some p) (Some q) = Some (5 * p + q)
 
--- the form of one byte that a list has, 0 for none
-abbrev pub pack_byte : Kind → Option ℕ → ℕ
-pack_byte Array none = 0
-pack_byte Array (some c) = array_byte c
-pack_byte Map none = 0
-pack_byte Map (some c) = map_byte 0 c
-pack_byte Record p = 0
-pack_byte Function p = 0
-pack_byte Symbol p = 0
-pack_byte Variable p = 0
+-- the form of one byte that a list has
+abbrev pub pack_byte : Kind → Option ℕ → Option ℕ
+pack_byte Array None = None
+pack_byte Array (Some c) = Some (array_byte c)
+pack_byte Map None = None
+pack_byte Map (Some c) = Some (map_byte 0 c)
+pack_byte Record p = None
+pack_byte Function p = None
+pack_byte Symbol p = None
+pack_byte Variable p = None
+
+-- the one byte where there is one, else the bytes
+abbrev pub byte_or : Option ℕ → List ℕ → List ℕ
+byte_or None w = w
+byte_or (Some b) w = b ∷ []
 
 abbrev pub list_bytes : Kind → List ℕ → Items → List ℕ
-list_bytes kind count a =
-    ltb 0 (pack_byte kind a.code) ⇒ (pack_byte kind a.code ∷ []) ∣ λ _.
-    head_bytes kind (length (count ++ a.bytes)) ++ (count ++ a.bytes)
+list_bytes kind count a = byte_or (pack_byte kind a.code) (head_bytes kind (length (count ++ a.bytes)) ++ (count ++ a.bytes))
 
 -- a shape of one byte; σ says what becomes of a blank
 abbrev pub short_bytes : (ℕ → Shape) → ℕ → List ℕ
@@ -73,7 +71,7 @@ writes σ = record {
   short = λ b levels. short_bytes σ b;
   blank = λ n. encode (σ n);
   symbol = λ w. w;
-  start = items (some 0) [];
+  start = items (Some 0) [];
   item = λ a name v. items (more a.code (prim_code v)) (a.bytes ++ (name ++ v));
   list = list_bytes;
 }
@@ -97,13 +95,13 @@ Wrote d e to p r = WroteBytes d e to r.made r.next p
 abbrev pub WroteItems : List ℕ → List ℕ → ℕ → Places → Came Items → Type 0
 WroteItems d e to p r = WroteBytes d e to r.made.bytes r.next p
 
--- what a look at the shape at a place tells of what the pass makes there: the primitive and the place after it, or that it is none
-abbrev pub Peeked : Option ℕ → ℕ → Peek → Type 0
-Peeked none next r = r.code ≡ 5
-Peeked (some c) next r = (r.code ≡ c) × (r.next ≡ next) × (c < 5)
+-- what a look at the shape at a place tells of what the pass makes there: the primitive and the place after the shape, where it is one
+abbrev pub peek_said : Option ℕ → ℕ → Option Peek
+peek_said None next = None
+peek_said (Some c) next = Some (record { next = next; code = c })
 
-abbrev pub PeekIs : (ℕ → Shape) → List ℕ → ℕ → Peek → Type 0
-PeekIs σ s at r = (left : ℕ) → Peeked (prim_code (pass_shape (writes σ) left s at).made) (pass_shape (writes σ) left s at).next r
+abbrev pub PeekIs : (ℕ → Shape) → List ℕ → ℕ → Option Peek → Type 0
+PeekIs σ s at r = (left : ℕ) → r ≡ peek_said (prim_code (pass_shape (writes σ) left s at).made) (pass_shape (writes σ) left s at).next
 
 -- how many items a list that may be packed has
 abbrev pub packed_count : Kind → ℕ
@@ -114,14 +112,15 @@ packed_count Function = 0
 packed_count Symbol = 0
 packed_count Variable = 0
 
--- what a look at a list tells: the form of one byte and the place after its items, or 0 where there is none
-abbrev pub Packed : ℕ → ℕ → Peek → Type 0
-Packed b next r = (r.code ≡ b) × ((0 < b) → r.next ≡ next)
+-- what a look at a list tells: the form of one byte and the place after its items, where it has that form
+abbrev pub packed_said : Option ℕ → ℕ → Option Packed
+packed_said None next = None
+packed_said (Some b) next = Some (record { next = next; byte = b })
 
-abbrev pub PackedOf : Kind → Came Items → Peek → Type 0
-PackedOf kind a r = Packed (pack_byte kind a.made.code) a.next r
+abbrev pub PackedOf : Kind → Came Items → Option Packed → Type 0
+PackedOf kind a r = r ≡ packed_said (pack_byte kind a.made.code) a.next
 
-abbrev pub PackedIs : (ℕ → Shape) → List ℕ → ℕ → Kind → Peek → Type 0
+abbrev pub PackedIs : (ℕ → Shape) → List ℕ → ℕ → Kind → Option Packed → Type 0
 PackedIs σ s from kind r = (left : ℕ) → PackedOf kind (pass_items (writes σ) (pass_shape (writes σ) left) kind (packed_count kind) s from (writes σ).start) r
 
 -- there is room for an accepted template, filled, and it is no longer than an encoding may be

@@ -2,12 +2,12 @@
 use native.Mathlib.Omega.{arith}
 use mathlib.Core.Path.{◌∙◌, ap}
 use Rattle.meaning.proofs.Window.{bytes-by-index}
-use Rattle.answers.specs.Answers.{child_put}
+use Rattle.answers.specs.Answers.{said_put, child_put}
 use Rattle.answers.proofs.Small.{exported-child}
 use Rattle.board.proofs.shiulbart_child.Goals as goal
 
-pub child_answer-requires : goal.child_answer-requires
-child_answer-requires c = let w = c.args.bytes.now in rw c.child.ensures (exported-child w (bytes-by-index w (λ i. omega (arith, c.type_inv.bytes i))) c.args.k).fits
+pub in_numbers-requires : goal.in_numbers-requires
+in_numbers-requires c = let w = c.args.bytes.now in rw c.child.ensures (exported-child w (bytes-by-index w (λ i. omega (arith, c.type_inv.bytes i))) c.args.k).fits
 
 pub returns : goal.returns
-returns c = let w = c.args.bytes.now in c.child_answer.ensures ∙ ap child_put c.child.ensures ∙ (exported-child w (bytes-by-index w (λ i. omega (arith, c.type_inv.bytes i))) c.args.k).is
+returns c = let w = c.args.bytes.now in c.in_numbers.ensures ∙ ap (said_put child_put) c.child.ensures ∙ (exported-child w (bytes-by-index w (λ i. omega (arith, c.type_inv.bytes i))) c.args.k).is

@@ -4,17 +4,19 @@ use mathlib.Core.Path.{◌∙◌, ap}
 use Rattle.meaning.specs.Answers.{join_answer}
 use Rattle.meaning.proofs.Window.{bytes-by-index}
 use Rattle.meaning.proofs.Bounds.{join-small}
-use Rattle.answers.specs.Answers.{made_put}
-use Rattle.answers.proofs.Small.{made-fits}
+use Rattle.answers.specs.Answers.{said_put, written_put}
+use Rattle.answers.proofs.Small.{exported-made, made-fits}
 use Rattle.board.proofs.shiulbart_join.Goals as goal
 
-pub made_answer-requires : goal.made_answer-requires
-made_answer-requires c = let a = c.args in let f = bytes-by-index a.first.now (λ i. omega (arith, c.type_inv.first i)) in
+pub in_numbers-requires : goal.in_numbers-requires
+in_numbers-requires c = let a = c.args in let f = bytes-by-index a.first.now (λ i. omega (arith, c.type_inv.first i)) in
     let s = bytes-by-index a.second.now (λ i. omega (arith, c.type_inv.second i)) in
     rw c.join.ensures.is (made-fits (join_answer _ _ _) (join-small _ _ _ (search (f, s)) (search (f, s))))
 
 pub returns-clause-is : goal.returns-clause-is
-returns-clause-is c = c.made_answer.ensures ∙ ap made_put c.join.ensures.is
+returns-clause-is c = let a = c.args in let f = bytes-by-index a.first.now (λ i. omega (arith, c.type_inv.first i)) in
+    let s = bytes-by-index a.second.now (λ i. omega (arith, c.type_inv.second i)) in
+    c.in_numbers.ensures ∙ ap (said_put written_put) c.join.ensures.is ∙ (exported-made (join_answer _ _ _) (join-small _ _ _ f s)).is
 
 pub returns-clause-buffer : goal.returns-clause-buffer
 returns-clause-buffer c = c.join.ensures.buffer

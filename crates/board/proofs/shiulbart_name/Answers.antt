@@ -2,12 +2,12 @@
 use native.Mathlib.Omega.{arith}
 use mathlib.Core.Path.{◌∙◌, ap}
 use Rattle.meaning.proofs.Window.{bytes-by-index}
-use Rattle.answers.specs.Answers.{name_put}
+use Rattle.answers.specs.Answers.{said_put, name_put}
 use Rattle.answers.proofs.Small.{exported-name}
 use Rattle.board.proofs.shiulbart_name.Goals as goal
 
-pub name_answer-requires : goal.name_answer-requires
-name_answer-requires c = let w = c.args.bytes.now in rw c.name.ensures (exported-name w (bytes-by-index w (λ i. omega (arith, c.type_inv.bytes i))) c.args.k).fits
+pub in_numbers-requires : goal.in_numbers-requires
+in_numbers-requires c = let w = c.args.bytes.now in rw c.name.ensures (exported-name w (bytes-by-index w (λ i. omega (arith, c.type_inv.bytes i))) c.args.k).fits
 
 pub returns : goal.returns
-returns c = let w = c.args.bytes.now in c.name_answer.ensures ∙ ap name_put c.name.ensures ∙ (exported-name w (bytes-by-index w (λ i. omega (arith, c.type_inv.bytes i))) c.args.k).is
+returns c = let w = c.args.bytes.now in c.in_numbers.ensures ∙ ap (said_put name_put) c.name.ensures ∙ (exported-name w (bytes-by-index w (λ i. omega (arith, c.type_inv.bytes i))) c.args.k).is

@@ -2,15 +2,15 @@
 use mathlib.Core.Path.{◌∙◌, ap}
 use Rattle.meaning.specs.Answers.{write_answer}
 use Rattle.meaning.proofs.TableAnswers.{write-small}
-use Rattle.answers.specs.Answers.{made_put}
-use Rattle.answers.proofs.Small.{made-fits}
+use Rattle.answers.specs.Answers.{said_put, written_put}
+use Rattle.answers.proofs.Small.{exported-made, made-fits}
 use Rattle.board.proofs.shiulbart_write.Goals as goal
 
-pub made_answer-requires : goal.made_answer-requires
-made_answer-requires c = rw c.write.ensures.is (made-fits (write_answer _ _) (write-small _ _))
+pub in_numbers-requires : goal.in_numbers-requires
+in_numbers-requires c = rw c.write.ensures.is (made-fits (write_answer _ _) (write-small _ _))
 
 pub returns-clause-is : goal.returns-clause-is
-returns-clause-is c = c.made_answer.ensures ∙ ap made_put c.write.ensures.is
+returns-clause-is c = c.in_numbers.ensures ∙ ap (said_put written_put) c.write.ensures.is ∙ (exported-made (write_answer _ _) (write-small _ _)).is
 
 pub returns-clause-buffer : goal.returns-clause-buffer
 returns-clause-buffer c = c.write.ensures.buffer

@@ -9,10 +9,14 @@ use Rattle.extents.proofs.Held.{node-small, extents-next}
 use Rattle.extents.proofs.extents_of.Goals as goal
 
 pub loop-i-init : goal.loop-i-init
-loop-i-init c = let p = c.requires in (omega arith, p.6, p.7, λ j h. absurd (omega arith))
+loop-i-init c = let p = c.requires in (p.6, p.7, λ j h. absurd (omega arith))
+
+pub invariant_of-held : goal.invariant_of-held
+invariant_of-held c = let p = c.requires in
+    record { holds = record { links_few = p.2; names_few = p.3; front = p.4; lengths_all = c.loop-i.invariant.0; depths_all = c.loop-i.invariant.1 } }
 
 pub extent_of-extent-requires : goal.extent_of-extent-requires
-extent_of-extent-requires c = let a = c.args in let p = c.requires in (p.2, p.3, p.4, omega arith, omega arith, rw c.node_at.ensures.is (every-good a.nodes.now a.rest.now a.links a.names a.count p.5 c.loop-i.i c.loop-i-test.true), omega arith, omega arith)
+extent_of-extent-requires c = let a = c.args in let p = c.requires in (omega arith, omega arith, rw c.node_at.ensures.is (every-good a.nodes.now a.rest.now a.links a.names a.count p.5 c.loop-i.i c.loop-i-test.true))
 
 pub overflow_cast-lengths : goal.overflow_cast-lengths
 overflow_cast-lengths c = let a = c.args in let s : c.extent_of-extent.result.length ≤ over = rw c.extent_of-extent.ensures (node-small (held_in c.loop-i.lengths c.loop-i.depths) a.nodes.now a.rest.now a.links (node_said c.node_at.result)).0 in
@@ -22,16 +26,12 @@ pub overflow_cast-depths : goal.overflow_cast-depths
 overflow_cast-depths c = let a = c.args in let s : c.extent_of-extent.result.depth ≤ too_deep = rw c.extent_of-extent.ensures (node-small (held_in c.loop-i.lengths c.loop-i.depths) a.nodes.now a.rest.now a.links (node_said c.node_at.result)).1 in
     omega (arith, s)
 
-pub loop-i-smaller : goal.loop-i-smaller
-loop-i-smaller c = omega arith
-
 pub loop-i-preserved : goal.loop-i-preserved
 loop-i-preserved c = let a = c.args in (
-  omega arith,
+  simp length-set c.loop-i.invariant.0,
   simp length-set c.loop-i.invariant.1,
-  simp length-set c.loop-i.invariant.2,
-  extents-next a.nodes.now a.rest.now a.links a.names c.loop-i.lengths c.loop-i.depths c.loop-i.i c.extent_of-extent.result (omega arith) (omega arith) (λ j h. every-good a.nodes.now a.rest.now a.links a.names a.count c.requires.5 j (omega arith)) c.node_at.ensures.is c.extent_of-extent.ensures c.loop-i.invariant.3,
+  extents-next a.nodes.now a.rest.now a.links a.names c.loop-i.lengths c.loop-i.depths c.loop-i.i c.extent_of-extent.result (omega arith) (omega arith) (λ j h. every-good a.nodes.now a.rest.now a.links a.names a.count c.requires.5 j (omega arith)) c.node_at.ensures.is c.extent_of-extent.ensures c.loop-i.invariant.2,
 )
 
 pub returns : goal.returns
-returns c = λ j h. c.loop-i.invariant.3 j (omega arith)
+returns c = λ j h. c.loop-i.invariant.2 j (omega arith)

@@ -9,7 +9,7 @@ use Rattle.meaning.specs.Numbers.{leb128}
 use Rattle.meaning.specs.Table.{Name, name}
 use Rattle.tables.specs.Places.{text_place, name_at}
 use Rattle.buffers.specs.Written.{written}
-use Rattle.buffers.proofs.Written.{written_after}
+use Rattle.buffers.proofs.Written.{written_after, part-slice}
 use Rattle.forms.specs.Forms.{text_at}
 use Rattle.forms.specs.Forms.{HasName}
 use Rattle.forms.proofs.put_text.Goals as goal
@@ -38,9 +38,12 @@ module _ (rest : List ℕ) (links names k : ℕ) (has : HasName rest links names
 pub put_leb-start-requires : goal.put_leb-start-requires
 put_leb-start-requires c = ((there _ _ _ _ c.requires.0 _ _ c.name_at-name.ensures.is).1, omega (arith, long _ _ _ _ c.requires.0 _ _ c.name_at-name.ensures.is, c.requires.1))
 
-pub put_part-requires : goal.put_part-requires
-put_part-requires c = let l = long _ _ _ _ c.requires.0 _ _ c.name_at-name.ensures.is in
-    (omega arith, omega (arith, (there _ _ _ _ c.requires.0 _ _ c.name_at-name.ensures.is).0, c.text_from.ensures), omega (arith, c.put_leb-start.ensures.after, c.put_leb-start.auto, c.requires.1))
+pub put_bytes-requires : goal.put_bytes-requires
+put_bytes-requires c =
+    let a = c.args in let n = c.name_at-name.result in let from = c.text_from.result + n.start in
+    let l = long _ _ _ _ c.requires.0 _ _ c.name_at-name.ensures.is in
+    let inside : from + n.size ≤ length a.rest.now = omega (arith, (there _ _ _ _ c.requires.0 _ _ c.name_at-name.ensures.is).0, c.text_from.ensures) in
+    omega (arith, length-slice from (from + n.size) a.rest.now inside, c.put_leb-start.ensures.after, c.put_leb-start.auto, c.requires.1)
 
 pub overflow_add-result : goal.overflow_add-result
 overflow_add-result c = let l = long _ _ _ _ c.requires.0 _ _ c.name_at-name.ensures.is in
@@ -51,5 +54,6 @@ returns-clause-after c = let a = c.args in let l = long _ _ _ _ c.requires.0 _ _
     omega (arith, c.put_leb-start.ensures.after)
 
 pub returns-clause-wrote : goal.returns-clause-wrote
-returns-clause-wrote c = let a = c.args in let l = long _ _ _ _ c.requires.0 _ _ c.name_at-name.ensures.is in
-    cc (wrote _ _ _ _ c.requires.0 _ _ c.name_at-name.ensures.is a.out.now a.to c.requires.1, c.text_from.ensures, c.put_leb-start.ensures.after, c.put_leb-start.ensures.wrote, c.put_part.ensures)
+returns-clause-wrote c = let a = c.args in
+    rw (part-slice (c.text_from.result + c.name_at-name.result.start) (c.text_from.result + c.name_at-name.result.start + c.name_at-name.result.size) a.rest.now (omega arith)) at c.put_bytes.ensures
+    ∙ rw (c.put_leb-start.ensures.after, c.put_leb-start.ensures.wrote, c.text_from.ensures) (wrote _ _ _ _ c.requires.0 _ _ c.name_at-name.ensures.is a.out.now a.to c.requires.1)

@@ -1,9 +1,8 @@
 -- `items::items_run` meets its contract.
+use mathlib.Core.Path.{◌≡◌}
+use lib.ListN.{length}
 use Rattle.items.specs.Fed.{RunFed}
 use Rattle.items.proofs.items_run.Given as goal
 
-abbrev pub invariant-loop-run : goal.invariant-loop-run
-invariant-loop-run l = RunFed l.items l.s l.end l.from l.n l.due l.deepest l.run
-
-abbrev pub decreases-loop-run : goal.decreases-loop-run
-decreases-loop-run l = l.run.due
+abbrev pub invariant-loop-due : goal.invariant-loop-due
+invariant-loop-due l = (l.run.due ≡ l.due) × RunFed l.items l.w (length l.w) l.fn.from.i l.n l.fn.from.due l.fn.from.deepest l.run

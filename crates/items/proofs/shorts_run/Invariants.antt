@@ -2,11 +2,9 @@
 use mathlib.Core.Path.{◌≡◌}
 use Prim.Native.Nat.{◌+◌}
 use Rattle.byte_steps.specs.declared.modes.Items.TheVariants.{Bare}
+use lib.ListN.{length}
 use Rattle.items.specs.Fed.{RunFed}
 use Rattle.items.proofs.shorts_run.Given as goal
 
-abbrev pub invariant-loop-run : goal.invariant-loop-run
-invariant-loop-run l = (l.run.i + l.run.due ≡ l.from + l.due) × RunFed Bare l.s l.end l.from l.n l.due l.deepest l.run
-
-abbrev pub decreases-loop-run : goal.decreases-loop-run
-decreases-loop-run l = l.run.due
+abbrev pub invariant-loop-i : goal.invariant-loop-i
+invariant-loop-i l = (l.run.i ≡ l.i) × (l.i + l.run.due ≡ l.fn.run.i + l.fn.run.due) × RunFed Bare l.w (length l.w) l.fn.run.i l.n l.fn.run.due l.fn.run.deepest l.run

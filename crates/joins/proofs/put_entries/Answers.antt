@@ -1,65 +1,41 @@
 -- `joins::put_entries` meets its contract. The invariant: the entries passed are written.
 use native.Mathlib.Omega.{arith}
-use Rattle.sheets.proofs.Places.{ready-within, ready-count, ready-room}
+use mathlib.Core.Path.{refl}
+use Rattle.sheets.proofs.Places.{ready-within}
+use Rattle.merges.proofs.Merging.{over_turn, turn_is, over_end}
 use Rattle.joins.proofs.Putting.{next-short, next-room, next_place, next_small, put-none, put-more, put_all}
 use Rattle.joins.proofs.put_entries.Goals as goal
 
-pub two_at-requires : goal.two_at-requires
-two_at-requires c = omega (arith, ready-room c.requires.0)
-
-pub two_at-requires-2 : goal.two_at-requires-2
-two_at-requires-2 c = omega (arith, ready-room c.requires.1)
-
-pub overflow_add-all : goal.overflow_add-all
-overflow_add-all c = omega (arith, c.two_at.ensures.small, c.two_at-2.ensures.small)
-
-pub overflow_mul-to : goal.overflow_mul-to
-overflow_mul-to c = omega (arith, c.requires.3)
-
-pub overflow_add-to : goal.overflow_add-to
-overflow_add-to c = omega (arith, c.requires.3)
-
-pub overflow_add-to-2 : goal.overflow_add-to-2
-overflow_add-to-2 c = omega (arith, c.requires.3)
-
-pub loop-i-init : goal.loop-i-init
-loop-i-init c = let p = c.requires in (
-  omega (arith, c.two_at.ensures.is, ready-count p.0, c.two_at-2.ensures.is, ready-count p.1),
-  put-none _ _ _ c.args.out.now (record { counted = p.2; few = p.3; fitting = p.4; room = p.5 }),
+pub loop-turn-init : goal.loop-turn-init
+loop-turn-init c = let e = c.new-turn-items.ensures in let p = c.requires in rw c.into_iter-turn-iterator.ensures.into_iter_gives (
+  tt,
+  tt,
+  record {
+    over = record { first = rw e.first refl; second = rw e.second refl };
+    put = rw (e.i, e.j) (put-none _ _ _ c.args.out.now (record { counted = p.0; few = p.1; fitting = p.2; room = p.3 }));
+  },
 )
 
-pub overflow_add-i : goal.overflow_add-i
-overflow_add-i c = let p = c.loop-i.invariant.1 in omega (arith, (ready-within c.requires.0).few, (ready-within c.requires.1).few, p.first, p.second)
-
-pub turn_of-turn-requires : goal.turn_of-turn-requires
-turn_of-turn-requires c = let p = c.loop-i.invariant.1 in (c.requires.0, c.requires.1, p.first, p.second, omega (arith, c.loop-i.invariant.0))
-
 pub put_encoding-end-requires : goal.put_encoding-end-requires
-put_encoding-end-requires c = let p = c.loop-i.invariant.1 in let u = c.turn_of-turn.ensures in (c.requires.0, c.requires.1, u.whose, next-room p u, next-short p u)
+put_encoding-end-requires c = let v = c.loop-turn.invariant.2 in let u = turn_is v.over c.in-Some.ensures.steps in (u.there, next-room v.put u, next-short v.put u)
 
 pub put_two-requires : goal.put_two-requires
-put_two-requires c = let p = c.loop-i.invariant.1 in let u = c.turn_of-turn.ensures in (omega (arith, next_place p u, p.same, p.fits.room), next_small u (ready-within c.requires.0).all (ready-within c.requires.1).all)
+put_two-requires c = let v = c.loop-turn.invariant.2 in let p = v.put in let u = turn_is v.over c.in-Some.ensures.steps in
+    (omega (arith, next_place p u, p.same, p.fits.room), next_small u (ready-within c.args.first.now.ready).all (ready-within c.args.second.now.ready).all)
 
-pub overflow_add-at : goal.overflow_add-at
-overflow_add-at c = let p = c.loop-i.invariant.1 in omega (arith, next_place p c.turn_of-turn.ensures, p.fits.few)
+pub put_two-requires-in-loop-turn : goal.put_two-requires-in-loop-turn
+put_two-requires-in-loop-turn c = let v = c.loop-turn.invariant.2 in let p = v.put in let u = turn_is v.over c.in-Some.ensures.steps in
+    (omega (arith, next_place p u, p.same, p.fits.room), omega (arith, c.put_encoding-end.ensures.after, next-short p u))
 
-pub overflow_sub-end : goal.overflow_sub-end
-overflow_sub-end c = omega (arith, c.put_encoding-end.ensures.after)
-
-pub put_two-requires-in-loop-i : goal.put_two-requires-in-loop-i
-put_two-requires-in-loop-i c = let p = c.loop-i.invariant.1 in let u = c.turn_of-turn.ensures in (omega (arith, next_place p u, p.same, p.fits.room), omega (arith, c.put_encoding-end.ensures.after, next-short p u))
-
-pub overflow_add-at-in-loop-i : goal.overflow_add-at-in-loop-i
-overflow_add-at-in-loop-i c = let p = c.loop-i.invariant.1 in omega (arith, next_place p c.turn_of-turn.ensures, p.fits.few)
-
-pub loop-i-smaller : goal.loop-i-smaller
-loop-i-smaller c = let u = c.turn_of-turn.ensures in omega (arith, u.onward, u.first, u.second, c.loop-i.invariant.0)
-
-pub loop-i-preserved : goal.loop-i-preserved
-loop-i-preserved c = let l = c.loop-i in let e = c.put_encoding-end.ensures in (l.invariant.0, put-more l.invariant.1 c.turn_of-turn.ensures _ _ _ _ e.after e.wrote c.put_two.ensures c.put_two-in-loop-i.ensures (omega arith))
-
-pub shape_of-out : goal.shape_of-out
-shape_of-out c = c.loop-i.invariant.1.same
+pub loop-turn-preserved : goal.loop-turn-preserved
+loop-turn-preserved c = let v = c.loop-turn.invariant.2 in let g = c.in-Some.ensures.steps in let e = c.put_encoding-end.ensures in (
+  tt,
+  tt,
+  record {
+    over = over_turn v.over g;
+    put = put-more v.put (turn_is v.over g) _ _ _ _ e.after e.wrote c.put_two.ensures c.put_two-in-loop-turn.ensures (omega arith);
+  },
+)
 
 pub returns : goal.returns
-returns c = put_all c.loop-i.invariant.1 (omega (arith, c.loop-i.invariant.0))
+returns c = let v = c.loop-turn.invariant.2 in put_all v.put (over_end v.over c.in-None.ensures.steps)

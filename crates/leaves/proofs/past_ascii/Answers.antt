@@ -3,8 +3,5 @@ use borrow.Author.Rules.{rules}
 use Rattle.leaves.proofs.Way.{ascii-on, follow}
 use Rattle.leaves.proofs.past_ascii.Goals as goal
 
-pub loop-at-init : goal.loop-at-init
-loop-at-init c = follow c.past_blocks-wide.ensures c.past_blocks-at.ensures
-
 pub loop-at-preserved : goal.loop-at-preserved
 loop-at-preserved c = follow c.loop-at.invariant (ascii-on _ _ _ (search rules) (search rules) (search rules))

@@ -7,8 +7,8 @@ use Rattle.leaves.proofs.well_formed_to.Goals as goal
 pub loop-at-init : goal.loop-at-init
 loop-at-init c = stay _ _ _ (search rules)
 
-pub loop-at-preserved-then-s-at-lt128 : goal.loop-at-preserved-then-s-at-lt128
-loop-at-preserved-then-s-at-lt128 c = follow c.loop-at.invariant
+pub loop-at-preserved-then-w-at-lt128 : goal.loop-at-preserved-then-w-at-lt128
+loop-at-preserved-then-w-at-lt128 c = follow c.loop-at.invariant
     (follow (ascii-on _ _ _ (search rules) (search rules) (search rules)) c.past_ascii-at.ensures)
 
 pub returns-then-n-eq0 : goal.returns-then-n-eq0

@@ -36,17 +36,5 @@ missing Between count whole deepest k = refl
 missing Done count whole deepest k = absurd (miss others 12 (tt {0}) k)
 missing (Faulty number place) count whole deepest k = absurd (miss others 13 (tt {0}) k)
 
-pub returns-then-whole-count : goal.returns-then-whole-count
-unfolding verdict
-returns-then-whole-count c = rw (c.in-Done.is, lt-ltb c.args.whole c.args.count c.if-whole-count.true)
-
-pub returns-else-whole-count : goal.returns-else-whole-count
-unfolding verdict
-returns-else-whole-count c = rw (c.in-Done.is, le-ltb c.args.whole c.args.count c.if-whole-count.false)
-
-pub returns-in-Faulty : goal.returns-in-Faulty
-unfolding verdict
-returns-in-Faulty c = rw c.in-Faulty.is
-
 pub returns-in_default : goal.returns-in_default
-returns-in_default c = let a = c.args in rw (missing a.mode a.count a.whole a.deepest (opened c.in_default.in_default-own.keys3))
+returns-in_default c = let a = c.args in rw (missing a.mode a.count a.whole a.deepest (opened c.in_default.in_default-own.keys3), c.refused-in_default.ensures)

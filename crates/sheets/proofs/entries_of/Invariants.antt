@@ -6,7 +6,4 @@ use Rattle.sheets.specs.Steps.{entries_from}
 use Rattle.sheets.proofs.entries_of.Given as goal
 
 abbrev pub invariant-loop-i : goal.invariant-loop-i
-invariant-loop-i l = (l.i ≤ l.count) × (l.sum ≤ max_bytes * l.i) × (entries_from l.sheet l.count 0 0 0 ≡ entries_from l.sheet (l.count - l.i) l.i l.least l.sum)
-
-abbrev pub decreases-loop-i : goal.decreases-loop-i
-decreases-loop-i l = l.count - l.i
+invariant-loop-i l = (l.sum ≤ max_bytes * l.i) × (entries_from l.sheet l.count 0 0 0 ≡ entries_from l.sheet (l.count - l.i) l.i l.least l.sum)

@@ -1,5 +1,4 @@
 -- `sizes::measure` meets its contract: the pass over the template makes what is said of it.
-use borrow.Author.Rules.{rules}
 use mathlib.Core.Path.{sym, ap, ◌∙◌}
 use native.Mathlib.Omega.{arith}
 use Rattle.meaning.specs.Limits.{max_levels}
@@ -11,27 +10,16 @@ use Rattle.steps.proofs.Passing.{shape-none, shape-short}
 use Rattle.sizes.proofs.Making.{measured}
 use Rattle.sizes.proofs.measure.Goals as goal
 
-pub bounds-template-0 : goal.bounds-template-0
-bounds-template-0 c = let h = rw c.in-Short.is at c.first_at.ensures.inside in h.0
-
-pub short_size-requires : goal.short_size-requires
-short_size-requires c = let h = rw c.in-Short.is at c.first_at.ensures.inside in
-    (c.requires.0, h.1)
-
-pub shape_size-requires : goal.shape_size-requires
-shape_size-requires c = let p = c.requires in let h = rw c.in-Long.is at c.first_at.ensures.inside in
-    (p.0, p.1, h, search rules, sym c.first_at.ensures.is ∙ c.in-Long.is)
-
 pub returns-in-Unassigned : goal.returns-in-Unassigned
-returns-in-Unassigned c = let a = c.args in measured (blank_in a.sheet.now) a.template.now (λ i. omega (arith, c.type_inv.template i)) c.nothing.result.size
+returns-in-Unassigned c = let a = c.args in measured (blank_in a.sheet.now.bytes.now) a.template.now (λ i. omega (arith, c.type_inv.template i)) c.nothing.result.size
     (ap (λ (r : Came Size). r.made)
-    (shape-none (sizes (blank_in a.sheet.now)) max_levels a.template.now 0 (sym c.first_at.ensures.is ∙ c.in-Unassigned.is) ∙ sym c.nothing.ensures))
+    (shape-none (sizes (blank_in a.sheet.now.bytes.now)) max_levels a.template.now 0 (sym c.first_at.ensures.is ∙ c.in-Unassigned.is) ∙ sym c.nothing.ensures))
 
 pub returns-in-Short : goal.returns-in-Short
-returns-in-Short c = let a = c.args in measured (blank_in a.sheet.now) a.template.now (λ i. omega (arith, c.type_inv.template i)) c.short_size.result
-    (ap (λ (r : Came Size). r.made) (shape-short (sizes (blank_in a.sheet.now)) max_levels a.template.now 0 (sym c.first_at.ensures.is ∙ c.in-Short.is))
+returns-in-Short c = let a = c.args in measured (blank_in a.sheet.now.bytes.now) a.template.now (λ i. omega (arith, c.type_inv.template i)) c.short_size.result
+    (ap (λ (r : Came Size). r.made) (shape-short (sizes (blank_in a.sheet.now.bytes.now)) max_levels a.template.now 0 (sym c.first_at.ensures.is ∙ c.in-Short.is))
     ∙ sym c.short_size.ensures.is)
 
 pub returns-in-Long : goal.returns-in-Long
-returns-in-Long c = let a = c.args in measured (blank_in a.sheet.now) a.template.now (λ i. omega (arith, c.type_inv.template i)) c.shape_size.result.size
+returns-in-Long c = let a = c.args in measured (blank_in a.sheet.now.bytes.now) a.template.now (λ i. omega (arith, c.type_inv.template i)) c.shape_size.result.size
     (ap (λ (r : Came Size). r.made) (sym c.shape_size.ensures.is))

@@ -1,12 +1,12 @@
 -- `tables::good_links` meets its contract.
-use Rattle.meaning.proofs.Rules.{tests}
+use borrow.Author.Tests.{le-ltb, lt-ltb, lt-leb}
 use Rattle.tables.specs.Places.{good_span}
 use Rattle.tables.proofs.good_links.Goals as goal
 
-pub returns-then-links-a : goal.returns-then-links-a
+pub returns-then-a-b : goal.returns-then-a-b
 unfolding good_span
-returns-then-links-a c = search tests
+returns-then-a-b c = rw (le-ltb _ _ c.if-a-b.true) c.good_run.ensures
 
-pub returns : goal.returns
+pub returns-else-a-b : goal.returns-else-a-b
 unfolding good_span
-returns c = simp c.good_run.ensures (search tests)
+returns-else-a-b c = rw (lt-ltb _ _ c.if-a-b.false, lt-leb _ _ c.if-a-b.false)

@@ -6,30 +6,30 @@ use Rattle.tables.specs.Places.{layout_at}
 use Rattle.tables.proofs.Turns.{section-ended}
 use Rattle.tables.proofs.layout_of.Goals as goal
 
-pub section_at-requires-in-Whole : goal.section_at-requires-in-Whole
-section_at-requires-in-Whole c = let e = section-ended c.args.rest.now _ _ _ _ _ (sym c.section_at.ensures ∙ c.in-Whole.is) in
-    omega arith
-
-pub section_at-requires-in-Whole-section_at : goal.section_at-requires-in-Whole-section_at
-section_at-requires-in-Whole-section_at c = let e = section-ended c.args.rest.now _ _ _ _ _ (sym c.section_at-in-Whole.ensures ∙ c.in-Whole-section_at.is) in
-    omega arith
-
-pub returns-then-end-rest : goal.returns-then-end-rest
+pub returns-in_default : goal.returns-in_default
 unfolding layout_at
-returns-then-end-rest c = rw (← c.section_at.ensures, c.in-Whole.is, ← c.section_at-in-Whole.ensures, c.in-Whole-section_at.is, ← c.section_at-in-Whole-section_at.ensures, c.in-Whole-section_at-2.is) (search tests)
+returns-in_default c = rw (← c.section_at.ensures, c.in_default.is)
 
-pub returns-in-Broken : goal.returns-in-Broken
-unfolding layout_at
-returns-in-Broken c = rw (← c.section_at.ensures, c.in-Broken.is)
+pub section_at-requires-2 : goal.section_at-requires-2
+section_at-requires-2 c = let e = section-ended c.args.rest.now _ _ _ _ _ (sym c.section_at.ensures ∙ c.in-Some.is) in
+    (e.inside, omega arith)
 
-pub returns-in-Broken-section_at : goal.returns-in-Broken-section_at
+pub returns-in_default-section_at : goal.returns-in_default-section_at
 unfolding layout_at
-returns-in-Broken-section_at c = rw (← c.section_at.ensures, c.in-Whole.is, ← c.section_at-in-Whole.ensures, c.in-Broken-section_at.is)
+returns-in_default-section_at c = rw (← c.section_at.ensures, c.in-Some.is, ← c.section_at-2.ensures, c.in_default-section_at.is)
 
-pub returns-in-Broken-section_at-2 : goal.returns-in-Broken-section_at-2
-unfolding layout_at
-returns-in-Broken-section_at-2 c = rw (← c.section_at.ensures, c.in-Whole.is, ← c.section_at-in-Whole.ensures, c.in-Whole-section_at.is, ← c.section_at-in-Whole-section_at.ensures, c.in-Broken-section_at-2.is)
+pub section_at-requires-3 : goal.section_at-requires-3
+section_at-requires-3 c = let e = section-ended c.args.rest.now _ _ _ _ _ (sym c.section_at-2.ensures ∙ c.in-Some-section_at.is) in
+    (e.inside, omega arith)
 
-pub returns-else-end-rest : goal.returns-else-end-rest
+pub returns-in_default-section_at-2 : goal.returns-in_default-section_at-2
 unfolding layout_at
-returns-else-end-rest c = rw (← c.section_at.ensures, c.in-Whole.is, ← c.section_at-in-Whole.ensures, c.in-Whole-section_at.is, ← c.section_at-in-Whole-section_at.ensures, c.in-Whole-section_at-2.is) (search tests)
+returns-in_default-section_at-2 c = rw (← c.section_at.ensures, c.in-Some.is, ← c.section_at-2.ensures, c.in-Some-section_at.is, ← c.section_at-3.ensures, c.in_default-section_at-2.is)
+
+pub returns-then-text-rest : goal.returns-then-text-rest
+unfolding layout_at
+returns-then-text-rest c = rw (← c.section_at.ensures, c.in-Some.is, ← c.section_at-2.ensures, c.in-Some-section_at.is, ← c.section_at-3.ensures, c.in-Some-section_at-2.is) (search tests)
+
+pub returns : goal.returns
+unfolding layout_at
+returns c = rw (← c.section_at.ensures, c.in-Some.is, ← c.section_at-2.ensures, c.in-Some-section_at.is, ← c.section_at-3.ensures, c.in-Some-section_at-2.is) (search tests)

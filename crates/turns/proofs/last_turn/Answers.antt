@@ -37,10 +37,10 @@ waiting (Faulty number place) k = refl
 
 pub returns-in-Opening : goal.returns-in-Opening
 returns-in-Opening c = let room = rw c.in-Opening.is at c.requires.2 in
-    rw (c.in-Opening.is, c.moved_on.ensures) (opening-leads c.opening_moved.result (omega arith) _ _ _ room c.opening_moved.ensures)
+    rw (c.in-Opening.is, c.moved.ensures) (opening-leads c.opening_moved.result (omega arith) _ _ _ room c.opening_moved.ensures)
 
 pub returns-in-Between : goal.returns-in-Between
-returns-in-Between c = rw (c.in-Between.is, c.moved_on-in-Between.ensures) (between-leads c.between_moved.result (omega arith) (omega arith) c.between_moved.ensures)
+returns-in-Between c = rw (c.in-Between.is, c.moved-in-Between.ensures) (between-leads c.between_moved.result (omega arith) (omega arith) c.between_moved.ensures)
 
 pub returns-in_default : goal.returns-in_default
-returns-in_default c = rw c.waits.ensures (wait-leads (waiting c.args.mode (opened c.in_default.in_default-own.keys3)) (omega arith) c.requires.1 (omega arith))
+returns-in_default c = rw c.waits.ensures (wait-leads (waiting c.args.t.mode (opened c.in_default.in_default-own.keys3)) (omega arith) c.requires.1 (omega arith))

@@ -1,5 +1,5 @@
 -- The proof of the cycle of calls {put_at, put_items}. Levels left and items left fall as a pair: levels * 65,536 + items, at each call. put_items
--- writes the shapes of its list in a loop, of which each turn leaves one item less; put_at writes a list's items, and then its node.
+-- writes the shapes of its list in a loop; put_at writes a list's items, and then its node.
 use Prim.Native.Nat.{◌+◌, ◌*◌}
 use Rattle.steps.specs.Pass.{pass_shape}
 use Rattle.counts.specs.Pieces.{pieces}
@@ -10,11 +10,9 @@ abbrev pub decreases-put_at : goal.decreases-put_at
 decreases-put_at l = l.left * 65536
 
 abbrev pub decreases-put_items : goal.decreases-put_items
-decreases-put_items l = l.left * 65536 + l.count
+decreases-put_items l = l.items.left * 65536 + l.items.count
 
 -- the shapes so far are written, and those that are due end as the whole list does
-abbrev pub invariant-put_items-loop-due : goal.invariant-put_items-loop-due
-invariant-put_items-loop-due l = Turn l.section (pass_shape pieces l.left) l.kind l.s l.from l.first l.count l.initial.there l.initial.out l.out l.at l.to l.there l.text l.due
-
-abbrev pub decreases-put_items-loop-due : goal.decreases-put_items-loop-due
-decreases-put_items-loop-due l = l.left * 65536 + l.due
+abbrev pub invariant-put_items-loop : goal.invariant-put_items-loop
+invariant-put_items-loop l =
+    Turn l.section (pass_shape pieces l.items.left) l.items.kind l.s l.items.from l.fn.from.to l.items.count l.fn.from.there l.initial.out l.out l.put.next l.put.to l.put.there l.text l.counter

@@ -5,30 +5,10 @@ use Rattle.entries.proofs.Wrote.{wrote_after}
 use Rattle.way_back.proofs.Packed.{map-bytes}
 use Rattle.way_back.proofs.put_map.Goals as goal
 
-pub put_node-second-requires : goal.put_node-second-requires
-put_node-second-requires c = let a = c.args in let h = simp (map-bytes a.section a.base a.p a.q, length-append) at c.requires.1 in
-    (omega arith, omega arith, omega arith)
-
-pub put_node-linked-requires : goal.put_node-linked-requires
-put_node-linked-requires c = let a = c.args in let h = simp (map-bytes a.section a.base a.p a.q, length-append) at c.requires.1 in
-    (omega arith, omega arith, omega (arith, h, c.put_node-second.ensures.after, c.put_node-second.auto))
-
-pub put_bare-other-requires : goal.put_bare-other-requires
-put_bare-other-requires c = let a = c.args in let h = simp (map-bytes a.section a.base a.p a.q, length-append) at c.requires.1 in
-    (omega arith, omega (arith, h, c.put_node-second.ensures.after, c.put_node-second.auto, c.put_node-linked.ensures.after, c.put_node-linked.auto))
-
-pub put_bare-end-requires : goal.put_bare-end-requires
-put_bare-end-requires c = let a = c.args in let h = simp (map-bytes a.section a.base a.p a.q, length-append) at c.requires.1 in
-    (omega arith, omega (arith, h, c.put_node-second.ensures.after, c.put_node-second.auto, c.put_node-linked.ensures.after, c.put_node-linked.auto, c.put_bare-other.ensures.after, c.put_bare-other.auto))
-
-pub put_node-requires : goal.put_node-requires
-put_node-requires c = let a = c.args in let h = simp (map-bytes a.section a.base a.p a.q, length-append) at c.requires.1 in
-    (omega arith, omega arith, omega (arith, h, c.put_node-second.ensures.after, c.put_node-second.auto, c.put_node-linked.ensures.after, c.put_node-linked.auto, c.put_bare-other.ensures.after, c.put_bare-other.auto, c.put_bare-end.ensures.after, c.put_bare-end.auto))
-
 pub returns : goal.returns
 returns c = let a = c.args in let h = simp (map-bytes a.section a.base a.p a.q, length-append) at c.requires.1 in
     rw (map-bytes a.section a.base a.p a.q)
-    (wrote_after (omega (arith, h)) c.put_node-second.ensures
+    (wrote_after (omega arith) c.put_node-second.ensures
     (wrote_after (omega (arith, h, c.put_node-second.ensures.after, c.put_node-second.auto)) c.put_node-linked.ensures
     (wrote_after (omega (arith, h, c.put_node-second.ensures.after, c.put_node-second.auto, c.put_node-linked.ensures.after, c.put_node-linked.auto)) c.put_bare-other.ensures
     (wrote_after (omega (arith, h, c.put_node-second.ensures.after, c.put_node-second.auto, c.put_node-linked.ensures.after, c.put_node-linked.auto, c.put_bare-other.ensures.after, c.put_bare-other.auto)) c.put_bare-end.ensures c.put_node.ensures))))

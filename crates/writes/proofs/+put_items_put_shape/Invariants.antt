@@ -1,5 +1,5 @@
 -- The proof of the cycle of calls {put_items, put_shape}. Levels left and items left fall as a pair: levels * 65,536 + items, at each call.
--- put_items writes its list in a loop, of which each turn leaves one item less; put_shape writes a list's count and items, and then its head.
+-- put_items writes its list in a loop; put_shape writes a list's count and items, and then its head.
 use Prim.Native.Nat.{◌+◌, ◌*◌}
 use Rattle.steps.specs.Pass.{pass_shape}
 use Rattle.sheets.specs.Index.{blank_in}
@@ -14,8 +14,5 @@ abbrev pub decreases-put_shape : goal.decreases-put_shape
 decreases-put_shape l = l.left * 65536
 
 -- the items so far are written, and those that are due end as the whole list does
-abbrev pub invariant-put_items-loop-due : goal.invariant-put_items-loop-due
-invariant-put_items-loop-due l = Turn (blank_in l.sheet) (pass_shape (writes (blank_in l.sheet)) l.left) l.kind l.s l.from l.first l.count l.initial.out l.out l.at l.to l.due
-
-abbrev pub decreases-put_items-loop-due : goal.decreases-put_items-loop-due
-decreases-put_items-loop-due l = l.left * 65536 + l.due
+abbrev pub invariant-put_items-loop : goal.invariant-put_items-loop
+invariant-put_items-loop l = Turn (blank_in l.sheet.bytes.now) (pass_shape (writes (blank_in l.sheet.bytes.now)) l.left) l.kind l.s l.from l.first l.count l.counter l.initial.out l.out l.places

@@ -1,52 +1,33 @@
 -- `writes::prim_at` meets its contract.
-use borrow.Author.Rules.{rules}
-use borrow.Author.Tests.{lt-ltb, le-ltb}
 use mathlib.Core.Path.{refl, sym, ◌∙◌}
-use Rattle.meaning.specs.FirstByte.{short_blanks}
 use Rattle.sheets.specs.Index.{blank_in}
 use Rattle.writes.proofs.Peeks.{look-nothing, look-short, look-list, look-symbol, look-cut, look-blank}
 use Rattle.writes.proofs.prim_at.Goals as goal
-
-pub bounds-s-at : goal.bounds-s-at
-bounds-s-at c = let h = rw c.in-Short.is at c.first_at.ensures.inside in
-    search rules
-
-pub overflow_add-result : goal.overflow_add-result
-overflow_add-result c = let h = rw c.in-Short.is at c.first_at.ensures.inside in
-    search rules
-
-pub returns-then-b-lt-SHORT_BLANKS : goal.returns-then-b-lt-SHORT_BLANKS
-returns-then-b-lt-SHORT_BLANKS c = let a = c.args in look-short (blank_in a.sheet.now) a.s.now a.at _ _ (sym c.first_at.ensures.is ∙ c.in-Short.is) refl
-    (rw (lt-ltb _ short_blanks c.if-b-lt-SHORT_BLANKS.true) c.blank_prim.ensures)
-
-pub overflow_add-result-in-Short : goal.overflow_add-result-in-Short
-overflow_add-result-in-Short c = let h = rw c.in-Short.is at c.first_at.ensures.inside in
-    search rules
-
-pub returns-then-shaped_kind : goal.returns-then-shaped_kind
-returns-then-shaped_kind c = let a = c.args in look-list (blank_in a.sheet.now) a.s.now a.at _ _ (sym c.first_at.ensures.is ∙ c.in-Long.is)
-    (sym c.shaped_kind.ensures ∙ c.if-shaped_kind.true) refl
-
-pub returns-then-named_kind : goal.returns-then-named_kind
-returns-then-named_kind c = let a = c.args in look-symbol (blank_in a.sheet.now) a.s.now a.at _ _ (sym c.first_at.ensures.is ∙ c.in-Long.is)
-    (sym c.shaped_kind.ensures ∙ c.if-shaped_kind.false) (sym c.named_kind.ensures ∙ c.if-named_kind.true) refl
-
-pub overflow_sub-s : goal.overflow_sub-s
-overflow_sub-s c = let h = rw c.in-Long.is at c.first_at.ensures.inside in
-    search rules
-
-pub returns-then-s-at-lt-LONG_BLANK : goal.returns-then-s-at-lt-LONG_BLANK
-returns-then-s-at-lt-LONG_BLANK c = let a = c.args in look-cut (blank_in a.sheet.now) a.s.now a.at _ _ (sym c.first_at.ensures.is ∙ c.in-Long.is)
-    (sym c.shaped_kind.ensures ∙ c.if-shaped_kind.false) (sym c.named_kind.ensures ∙ c.if-named_kind.false) c.if-s-at-lt-LONG_BLANK.true refl
+use Rattle.writes.proofs.prim_at.Goals.{then-is_shaped-via-then-is_shaped, then-is_shaped-via-else-is_shaped+then-is_named, then-is_shaped-via-else-is_shaped+else-is_named+then-s-at-lt-LONG_BLANK}
 
 pub returns-in-Unassigned : goal.returns-in-Unassigned
-returns-in-Unassigned c = let a = c.args in look-nothing (blank_in a.sheet.now) a.s.now a.at _ (sym c.first_at.ensures.is ∙ c.in-Unassigned.is) refl
+returns-in-Unassigned c = let a = c.args in look-nothing (blank_in a.sheet.now.bytes.now) a.s.now a.at (sym c.first_at.ensures.is ∙ c.in-Unassigned.is)
 
-pub returns-else-b-lt-SHORT_BLANKS : goal.returns-else-b-lt-SHORT_BLANKS
-returns-else-b-lt-SHORT_BLANKS c = let a = c.args in look-short (blank_in a.sheet.now) a.s.now a.at _ _ (sym c.first_at.ensures.is ∙ c.in-Short.is) refl
-    (rw (le-ltb _ short_blanks c.if-b-lt-SHORT_BLANKS.false) c.prim_of.ensures)
+pub returns-in_err-code-in-Short : goal.returns-in_err-code-in-Short
+returns-in_err-code-in-Short c = let a = c.args in look-short (blank_in a.sheet.now.bytes.now) a.s.now a.at _ _ _ (sym c.first_at.ensures.is ∙ c.in-Short.is) c.in_err-code-in-Short.ensures c.from_residual.ensures
 
-pub returns-else-s-at-lt-LONG_BLANK : goal.returns-else-s-at-lt-LONG_BLANK
-returns-else-s-at-lt-LONG_BLANK c = let a = c.args in look-blank (blank_in a.sheet.now) a.s.now a.at _ _ (sym c.first_at.ensures.is ∙ c.in-Long.is)
-    (sym c.shaped_kind.ensures ∙ c.if-shaped_kind.false) (sym c.named_kind.ensures ∙ c.if-named_kind.false) c.if-s-at-lt-LONG_BLANK.false refl
-    (rw (← c.two_at.ensures.is) c.blank_prim-in-Long.ensures)
+pub returns-in_ok-code-in-Short : goal.returns-in_ok-code-in-Short
+returns-in_ok-code-in-Short c = let a = c.args in look-short (blank_in a.sheet.now.bytes.now) a.s.now a.at _ _ _ (sym c.first_at.ensures.is ∙ c.in-Short.is) c.in_ok-code-in-Short.ensures refl
+
+pub returns-in_err-code-in-Long : goal.returns-in_err-code-in-Long
+returns-in_err-code-in-Long c = let a = c.args in look-blank (blank_in a.sheet.now.bytes.now) a.s.now a.at _ (sym c.first_at.ensures.is ∙ c.in-Long.is)
+    (sym c.is_shaped.ensures ∙ c.if-is_shaped.false) (sym c.is_named.ensures ∙ c.if-is_named.false)
+    c.if-s-at-lt-LONG_BLANK.false _ _ (rw c.two_at.ensures.is at c.in_err-code-in-Long.ensures) c.from_residual-in_err-code-in-Long.ensures
+
+pub returns-in_ok-code-in-Long : goal.returns-in_ok-code-in-Long
+returns-in_ok-code-in-Long c = let a = c.args in look-blank (blank_in a.sheet.now.bytes.now) a.s.now a.at _ (sym c.first_at.ensures.is ∙ c.in-Long.is)
+    (sym c.is_shaped.ensures ∙ c.if-is_shaped.false) (sym c.is_named.ensures ∙ c.if-is_named.false)
+    c.if-s-at-lt-LONG_BLANK.false _ _ (rw c.two_at.ensures.is at c.in_ok-code-in-Long.ensures) refl
+
+pub returns-then-is_shaped : goal.returns-then-is_shaped
+returns-then-is_shaped c = let a = c.args in let f = sym c.first_at.ensures.is ∙ c.in-Long.is in let h = sym c.is_shaped.ensures in
+    elim c.then-is_shaped.branch [
+      | then-is_shaped-via-then-is_shaped w ↦ look-list (blank_in a.sheet.now.bytes.now) a.s.now a.at _ f (h ∙ w.if-is_shaped.true)
+      | then-is_shaped-via-else-is_shaped+then-is_named w ↦ look-symbol (blank_in a.sheet.now.bytes.now) a.s.now a.at _ f (h ∙ w.if-is_shaped.false) (sym w.is_named.ensures ∙ w.if-is_named.true)
+      | then-is_shaped-via-else-is_shaped+else-is_named+then-s-at-lt-LONG_BLANK w ↦ look-cut (blank_in a.sheet.now.bytes.now) a.s.now a.at _ f (h ∙ w.if-is_shaped.false) (sym w.is_named.ensures ∙ w.if-is_named.false) w.if-s-at-lt-LONG_BLANK.true
+    ]

@@ -1,5 +1,4 @@
 -- `writes::write` meets its contract: by the first byte, as the pass over a shape goes.
-use borrow.Author.Rules.{rules}
 use native.Mathlib.Omega.{arith}
 use native.Mathlib.Nat.{add-zero}
 use mathlib.Core.Path.{refl, sym, ◌∙◌}
@@ -11,24 +10,20 @@ use Rattle.writes.specs.Writes.{writes}
 use Rattle.writes.proofs.Whole.{whole_room, whole-wrote}
 use Rattle.writes.proofs.write.Goals as goal
 
-pub bounds-template-0 : goal.bounds-template-0
-bounds-template-0 c = let h = rw c.in-Short.is at c.first_at.ensures.inside in search rules
-
 pub put_short-requires : goal.put_short-requires
-put_short-requires c = let a = c.args in let z = shape-short (writes (blank_in a.sheet.now)) max_levels a.template.now 0 (sym c.first_at.ensures.is ∙ c.in-Short.is) in
-    let h = rw z at (whole_room _ _ (λ i. omega (arith, c.type_inv.template i)) _ _ c.requires.1) in
-    (c.requires.0, h.0)
+put_short-requires c = let a = c.args in let z = shape-short (writes (blank_in a.sheet.now.bytes.now)) max_levels a.template.now 0 (sym c.first_at.ensures.is ∙ c.in-Short.is) in
+    let h = rw z at (whole_room _ _ (λ i. omega (arith, c.type_inv.template i)) _ _ c.requires) in h.0
 
 pub put_shape-requires : goal.put_shape-requires
 put_shape-requires c = let h = rw c.in-Long.is at c.first_at.ensures.inside in
-    (c.requires.0, h, omega arith, sym c.first_at.ensures.is ∙ c.in-Long.is, whole_room _ _ (λ i. omega (arith, c.type_inv.template i)) _ _ c.requires.1)
+    (h, omega arith, sym c.first_at.ensures.is ∙ c.in-Long.is, whole_room _ _ (λ i. omega (arith, c.type_inv.template i)) _ _ c.requires)
 
 pub returns-in-Unassigned : goal.returns-in-Unassigned
-returns-in-Unassigned c = let a = c.args in let z = shape-none (writes (blank_in a.sheet.now)) max_levels a.template.now 0 (sym c.first_at.ensures.is ∙ c.in-Unassigned.is) in
+returns-in-Unassigned c = let a = c.args in let z = shape-none (writes (blank_in a.sheet.now.bytes.now)) max_levels a.template.now 0 (sym c.first_at.ensures.is ∙ c.in-Unassigned.is) in
     whole-wrote _ _ (λ i. omega (arith, c.type_inv.template i)) _ _ _ (record { next = 0; to = a.to }) (rw z (record { next_is = refl; to_is = sym (add-zero _); wrote = sym (written_none _ _) }))
 
 pub returns-in-Short : goal.returns-in-Short
-returns-in-Short c = let a = c.args in let z = shape-short (writes (blank_in a.sheet.now)) max_levels a.template.now 0 (sym c.first_at.ensures.is ∙ c.in-Short.is) in
+returns-in-Short c = let a = c.args in let z = shape-short (writes (blank_in a.sheet.now.bytes.now)) max_levels a.template.now 0 (sym c.first_at.ensures.is ∙ c.in-Short.is) in
     whole-wrote _ _ (λ i. omega (arith, c.type_inv.template i)) _ _ _ (record { next = 1; to = c.put_short.result }) (rw z (record { next_is = refl; to_is = c.put_short.ensures.after; wrote = c.put_short.ensures.wrote }))
 
 pub returns-in-Long : goal.returns-in-Long
