@@ -42,7 +42,7 @@ def show(row, found):
             print(f"         {it}")
 
 
-FUNCTION = r"\bfn (\w+)(?:<[^>]*>)?\(([^)]*)\)([^{;]*?)((?:\n\s*(?:requires|ensures)[^\n]*)*)\s*\n?\s*\{"
+FUNCTION = r"\bfn (\w+)(?:<[^>]*>)?\(([^)]*)\)((?:[^{;]|;[^{\]]*\])*?)((?:\n\s*(?:requires|ensures)[^\n]*)*)\s*\n?\s*\{"
 
 
 def functions():
@@ -94,20 +94,22 @@ print("2. twins")
 show("names that functions of two crates have", twins())
 print("3. loops")
 show("while and loop", places(r"^\s*(while|loop)\b"))
+show("turns that move a place of their own", places(r"^\s*for _ in "))
+show("searches by hand", [it for it in places(r"^\s*return (false|Some\(\w+\)|at|x);") if "leaves" in it or "tables" in it])
 print("4. equality, order, copies, conversions, printing by hand")
 show("larger, smaller, both of two", places(r"\bfn (larger|least|farthest|both|before)\b"))
-show("conversions by a function", places(r"\bfn (\w+_number|\w+_of|kind_of|items_of|first_of|digit)\(\w+: [^,)]*\)"))
+show("conversions by a function", places(r"\bfn (\w+_number|\w+_of|\w+_byte|level_in|items_of|first_of|digit)\(\w+: [^,)]*\)"))
 show("tests that return false or true", places(r"^\s*return (true|false);"))
 print("5. facts in contracts, parameters that travel together")
 show("facts that three functions or more ask for", [f"{len(v)} {k}" for k, v in sorted(asked().items(), key=lambda it: -len(it[1])) if len(v) >= 3])
 show("three parameters side by side in five functions or more", [f"{len(v)} {k}" for k, v in sorted(together().items(), key=lambda it: -len(it[1])) if len(v) >= 5])
 print("6. buffers with a length beside, arrays side by side, searches by hand")
-show("a slice with a place where it ends beside it", places(r"\b(s|sheet|rest): &\[u8\].*\b(end|stop): usize|^\s*end: usize,"))
-show("arrays", places(r"\[u(8|16|32|64); \w+\]"))
+show("a slice with a place where it ends beside it", places(r"\b(s|sheet|rest): &\[u8\].*\b(end|stop): usize|^\s*(pub )?end: usize,"))
+show("arrays", places(r"\[(u(8|16|32|64)|[A-Z]\w+); \w+\]|\[0(u8|u16)?; [A-Z_]+\]"))
 print("7. switches on a step")
-show("matches on an act, a section or a way", places(r"\bmatch (act|section|way)\b"))
+show("matches on an act, a section or a way", places(r"\bmatch (\w+\.)?(act|section|way)\b"))
 print("8. proofs")
-for word, pattern in (("answers", r"^pub [\w-]+ : goal\.(?!invariant|decreases)"), ("lemmas", r"^pub (?!data|record|mod|ruleset)[^:]+ : (?!goal)")):
+for word, pattern in (("answers", r"^pub [\w-]+ : goal\.(?!invariant|decreases)"), ("lemmas", r"^pub (?!(?:data|record|mod|ruleset) )[^:]+ : (?!goal)")):
     total = 0
     for it in listed:
         if it.endswith(".antt") and "/proofs/" in it:

@@ -100,7 +100,7 @@ def definitions(commit):
 def statements(commit):
     found = collections.defaultdict(str)
     for crate, text in files(commit, r"/proofs/[A-Z]\w*\.antt$"):
-        for it in re.finditer(r"^\s*pub (?!data|record|mod|ruleset|abbrev)([\w'≤-]+) : (.*(?:\n\s+→.*)*)", text, re.M):
+        for it in re.finditer(r"^\s*pub (?!(?:data|record|mod|ruleset|abbrev) )([\w'≤-]+) : (.*(?:\n\s+→.*)*)", text, re.M):
             found[f"{crate}: {it.group(1)}"] = flat(it.group(2))
     return found
 

@@ -110,16 +110,26 @@ pub fn show_child(rt: &impl Print, name: &str, bytes: &[u8], k: usize) -> io::Re
     }
 }
 
-// The length of a filled template.
+// The length of a template that is filled into a lent buffer.
+fn show_filled(
+    rt: &impl Print,
+    name: &str,
+    input: impl fmt::Display + Drop,
+    template: &[u8],
+    sheet: &[u8],
+    out: &mut [u8],
+) -> io::Result<()> {
+    let made = fills::fill(template, sheet, out);
+    println!(rt;
+        "{name}{input} filled with{}{}",
+        Bytes(sheet),
+        Made(made, out)
+    )
+}
+
 pub fn show_fill(rt: &impl Print, name: &str, template: &[u8], sheet: &[u8]) -> io::Result<()> {
     let mut out = [0xEEu8; 8];
-    let made = fills::fill(template, sheet, &mut out);
-    println!(rt;
-        "{name}{} filled with{}{}",
-        Bytes(template),
-        Bytes(sheet),
-        Made(made, &out)
-    )
+    show_filled(rt, name, Bytes(template), template, sheet, &mut out)
 }
 
 pub fn show_long_fill(
@@ -129,13 +139,7 @@ pub fn show_long_fill(
     sheet: &[u8],
 ) -> io::Result<()> {
     let mut out = [0xEEu8; MAX_BYTES];
-    let made = fills::fill(template, sheet, &mut out);
-    println!(rt;
-        "{name}{} filled with{}{}",
-        Length(template),
-        Bytes(sheet),
-        Made(made, &out)
-    )
+    show_filled(rt, name, Length(template), template, sheet, &mut out)
 }
 
 // The length of a joined sheet, which is left in the lent buffer.
@@ -155,17 +159,26 @@ pub fn show_join(
     )
 }
 
-// The length of the encoding that a table means.
+// The length of the encoding that a table means, written into a lent buffer.
+fn show_written(
+    rt: &impl Print,
+    name: &str,
+    input: impl fmt::Display + Drop,
+    table: &[u8],
+    out: &mut [u8],
+) -> io::Result<()> {
+    let made = writer::write(table, out);
+    println!(rt; "{name}{input} written{}", Made(made, out))
+}
+
 pub fn show_write(rt: &impl Print, name: &str, table: &[u8]) -> io::Result<()> {
     let mut out = [0xEEu8; 16];
-    let made = writer::write(table, &mut out);
-    println!(rt; "{name}{} written{}", Bytes(table), Made(made, &out))
+    show_written(rt, name, Bytes(table), table, &mut out)
 }
 
 pub fn show_long_write(rt: &impl Print, name: &str, table: &[u8]) -> io::Result<()> {
     let mut out = [0xEEu8; MAX_BYTES];
-    let made = writer::write(table, &mut out);
-    println!(rt; "{name}{} written{}", Length(table), Made(made, &out))
+    show_written(rt, name, Length(table), table, &mut out)
 }
 
 // The length of an encoding's table, made in a lent buffer, and what the writer makes of that.

@@ -119,6 +119,7 @@ pub fn shiulbart_pieces_part(mut state: State, part: &[u8]) -> State
         // the level in hand, should the turn lay it by
         let over = t.top;
         t = turn(part, t, n);
+        // no closure: each arm moves what the call itself holds
         match t.act {
             Act::Stay => {}
             Act::Push => {
@@ -134,13 +135,13 @@ pub fn shiulbart_pieces_part(mut state: State, part: &[u8]) -> State
                 kinds /= DIGIT;
             }
             Act::Rest => {
+                state.top = Entry::from(t.top);
+                state.kinds = kinds_with(kinds, t.top);
                 state.next = Word::from(t.mode);
+                state.used = n;
                 state.count = t.count;
                 state.whole = t.whole;
-                state.used = n;
                 state.deepest = t.deepest;
-                state.kinds = kinds_with(kinds, t.top);
-                state.top = Entry::from(t.top);
                 return state;
             }
         }

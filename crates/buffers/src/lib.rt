@@ -9,7 +9,8 @@ ghost use Rattle.buffers.specs.Verdicts.{verdict_of};
 use leaves::limits::{MAX_BYTES, MAX_LEVELS};
 use leaves::refusals::{Fault, Refusal};
 
-// What a made shape of so many bytes and levels comes to in a lent buffer of so many bytes: its length, where it can be written, or the refusal.
+// What a made shape of so many bytes and levels comes to in a lent buffer of so many bytes: its length, where it can be written, or the refusal. Each
+// test has a refusal of its own, in the order of the rules.
 #[tactic(auto, using(meaning::proofs::Rules::tests), unfolding(crate::specs::Verdicts::verdict_of))]
 pub fn verdict(length: usize, depth: usize, room: usize) -> Result<usize, Refusal>
     ensures { result ≡ verdict_of length depth room }
@@ -35,7 +36,7 @@ pub fn verdict(length: usize, depth: usize, room: usize) -> Result<usize, Refusa
     Ok(length)
 }
 
-// One byte.
+// One byte: a function, since its clause joins with what was written before it.
 #[tactic(auto, using(crate::proofs::Written::written_one))]
 pub fn put_byte(out: &mut [u8], to: usize, b: u8)
     requires { to < length out.old }

@@ -41,14 +41,9 @@ fn judged<R: Read>(input: &mut R) -> io::Result<Result<Accepted, Refusal>>
     Ok(reader::read(&bytes[..n]))
 }
 
-fn print_line(rt: &impl Print, word: &[u8], first: usize, second: usize) -> io::Result<()> {
-    rt.write_all(word)?;
-    println!(rt; "{first} {second}")
-}
-
 fn main(rt: HostRuntime) -> io::Result<()> {
     match judged(&mut rt.stdin())? {
-        Ok(shape) => print_line(&rt, b"ok ", shape.length, shape.depth),
-        Err(refusal) => print_line(&rt, b"no ", refusal.fault.number(), refusal.place),
+        Ok(shape) => println!(rt; "ok {} {}", shape.length, shape.depth),
+        Err(refusal) => println!(rt; "no {} {}", refusal.fault.number(), refusal.place),
     }
 }

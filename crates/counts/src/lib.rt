@@ -54,7 +54,7 @@ impl Add for Counts {
     }
 }
 
-// The sections of a table.
+// The sections of a table. An enum and no closure: contracts speak of the section.
 #[derive(Clone, Copy)]
 pub enum Section {
     Nodes,

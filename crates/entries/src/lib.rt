@@ -11,7 +11,7 @@ use counts::{Counts, Section, count_inner};
 use payloads::first::Kind;
 use tables::{ARRAY, FUNCTION, LINK_SIZE, MAP, NAME_SIZE, NODE_SIZE, RECORD, SYMBOL, VARIABLE};
 
-// The number of a kind in a table's bytes. No From: the kinds are of one crate below, and the numbers of another.
+// The number of a kind in a table's bytes. No From of `Kind`: it would stand in payloads, and the numbers are named once, in tables, above it.
 fn kind_number(kind: Kind) -> u8
     ensures { result ≡ kind_number kind }
 {

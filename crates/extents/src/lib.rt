@@ -32,7 +32,7 @@ fn leb_size(n: usize) -> usize
     if n < 128 { 1 } else { 2 }
 }
 
-// A length and a depth, each up to one over its limit.
+// A length and a depth, each up to one over its limit: no `Accepted`, whose two are within theirs.
 #[derive(Clone, Copy)]
 pub struct Extent {
     pub length: usize,
@@ -71,7 +71,8 @@ impl Extent {
     }
 }
 
-// The bytes of a table, of so many links and names, and what is held of its nodes.
+// The bytes of a table, of so many links and names, and what is held of its nodes. Two arrays: as one of structs they would take 24,576 bytes where
+// they take 18,432, of the 65,536 of a board.
 #[derive(Clone, Copy)]
 struct Extents<'a> {
     nodes: &'a [u8],

@@ -103,7 +103,7 @@ fn item_at(w: &[u8], at: usize, items: Items, n: u16, deepest: u16) -> Result<It
 }
 
 // Items taken one after the other: where the next stands, how many are due after it, how deep the deepest shape is, and the farthest fault that a walk
-// has met.
+// has met, 0 before any: the farthest of two is the larger.
 #[derive(Clone, Copy)]
 pub struct Run {
     pub i: usize,

@@ -58,6 +58,7 @@ pub fn leb128(w: &[u8], at: usize) -> Result<Leb, Refusal>
 }
 
 // The size of the character at a place whose first byte asks for 1 to 3 more, the first of them from low to high; 0 where they do not follow.
+// A number and no Option: the clause is the meaning's `size_with`, which says 0.
 #[tactic(auto, using(meaning::proofs::Rules::tests, crate::proofs::Text::size_by_steps), unfolding(crate::proofs::Text::size_steps))]
 fn char_with(w: &[u8], at: usize, more: usize, low: u8, high: u8) -> usize
     requires { (at < length w.now) × (0 < more) × (more < 4) }
@@ -75,7 +76,7 @@ fn char_with(w: &[u8], at: usize, more: usize, low: u8, high: u8) -> usize
     }
 }
 
-// The size of the character at a place, or 0. Each class of first byte has a call of its own, which the compiler then specialises.
+// The size of the character at a place, or 0, as the meaning's `char_size` says it. Each class of first byte has a call of its own, which the compiler then specialises.
 // Two tests are guards so that they come before the others: with ranges alone, characters of two bytes took a third longer.
 #[tactic(auto, using(meaning::proofs::Rules::tests, crate::proofs::Text::char_by_first), unfolding(meaning::specs::Utf8::char_size))]
 fn char_at(w: &[u8], at: usize) -> usize
@@ -102,6 +103,7 @@ pub fn block_at(w: &[u8], at: usize, size: usize) -> bool
     requires { at ≤ length w.now }
     ensures { result ≡ true → Onward w.now (length w.now) at (at + size) }
 {
+    // first, since the slice below must lie in the window
     if w.len() - at < size {
         return false;
     }
@@ -112,7 +114,7 @@ pub fn block_at(w: &[u8], at: usize, size: usize) -> bool
     bits < 128
 }
 
-// The place after the blocks of bytes that are each a character.
+// The place after the blocks of bytes that are each a character. By hand: the one test says where the blocks end, the last one's end too.
 fn past_blocks(w: &[u8], from: usize, size: usize) -> usize
     requires { (from ≤ length w.now) × (0 < size) }
     ensures { Onward w.now (length w.now) from result }
@@ -145,7 +147,7 @@ fn past_ascii(w: &[u8], from: usize) -> usize
     w.len()
 }
 
-// The place up to which the text from a place on is well formed.
+// The place up to which the text from a place on is well formed. By hand, since only the character found says where the next one is.
 pub fn well_formed_to(w: &[u8], from: usize) -> usize
     requires { from ≤ length w.now }
     ensures { result ≡ from + well_formed (slice from (length w.now) w.now) }

@@ -82,9 +82,13 @@ module _ (s : Joined) (n : ℕ) where
         second = refl;
         turn = record {
           there = h;
+          next = refl;
           blank = z;
           goes = rw (rest σ s.i h) (over-less (next_entry σ τ (First s.i)) (each (fill τ) (drop (s.i + 1) σ)) (drop s.j τ) a b);
           onward = omega arith;
+          first = λ a. omega arith;
+          second = λ a. omega arith;
+          fewer = omega arith;
         };
       }
 
@@ -99,9 +103,13 @@ module _ (s : Joined) (n : ℕ) where
         second = refl;
         turn = record {
           there = h;
+          next = refl;
           blank = z;
           goes = rw (rest σ s.i h, rest τ s.j k) (over-same (next_entry σ τ (First s.i)) (entry τ s.j) (each (fill τ) (drop (s.i + 1) σ)) (drop (s.j + 1) τ) e a);
           onward = omega arith;
+          first = λ a. omega arith;
+          second = λ a. omega arith;
+          fewer = omega arith;
         };
       }
 
@@ -115,9 +123,13 @@ module _ (s : Joined) (n : ℕ) where
         second = refl;
         turn = record {
           there = k;
+          next = refl;
           blank = z;
           goes = rw (rest τ s.j k) (over-more (each (fill τ) (drop s.i σ)) (entry τ s.j) (drop (s.j + 1) τ) (each-rising (fill τ) _ (drop s.i σ) a));
           onward = omega arith;
+          first = λ a. omega arith;
+          second = λ a. omega arith;
+          fewer = omega arith;
         };
       }
 

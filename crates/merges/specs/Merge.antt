@@ -30,6 +30,11 @@ abbrev pub IsThere : Sheet → Sheet → Entry → Type 0
 IsThere σ τ (First i) = i < length σ
 IsThere σ τ (Second j) = j < length τ
 
+-- after i entries of the first and j of the second, it is the one or the other's next
+abbrev pub IsNext : ℕ → ℕ → Entry → Type 0
+IsNext i j (First a) = a ≡ i
+IsNext i j (Second b) = b ≡ j
+
 -- how many entries of both are not passed
 abbrev pub turns_left : Joined → ℕ
 turns_left s = (length (sheet_in s.first.now.bytes.now) - s.i) + (length (sheet_in s.second.now.bytes.now) - s.j)
@@ -37,9 +42,13 @@ turns_left s = (length (sheet_in s.first.now.bytes.now) - s.i) + (length (sheet_
 -- a turn, after i of the first and j of the second: the entry that comes next, after which k of the first and l of the second are passed
 pub record TurnIs (σ τ : Sheet) (i j : ℕ) (t : Turn) (k l : ℕ) : Type 0 where
   pub there : IsThere σ τ t.entry
+  pub next : IsNext i j t.entry
   pub blank : t.blank ≡ (next_entry σ τ t.entry).number
   pub goes : joined_from σ τ i j ≡ next_entry σ τ t.entry ∷ joined_from σ τ k l
-  pub onward : (length σ - k) + (length τ - l) < (length σ - i) + (length τ - j)
+  pub onward : i + j < k + l
+  pub first : i ≤ length σ → k ≤ length σ
+  pub second : j ≤ length τ → l ≤ length τ
+  pub fewer : (length σ - k) + (length τ - l) < (length σ - i) + (length τ - j)
 
 -- what is left of it
 abbrev pub joined_left : Joined → Sheet

@@ -70,13 +70,14 @@ pub enum First {
     Long { kind: Kind },
 }
 
+// A primitive is tested for by a guard, so that it is the first test: with a range there, a list of shapes of one byte took twice as long to read.
 impl From<u8> for First {
     ghost from_gives = { λ b first. first ≡ first_said (class_of b) };
 
     #[tactic(auto, using(meaning::proofs::Rules::tests), unfolding(meaning::specs::FirstByte::class_of))]
     fn from(b: u8) -> First {
         match b {
-            0..PAST_PRIMITIVES => First::Short { levels: 1 },
+            b if b < PAST_PRIMITIVES => First::Short { levels: 1 },
             ARRAY => First::Long { kind: Kind::Array },
             MAP => First::Long { kind: Kind::Map },
             RECORD => First::Long { kind: Kind::Record },

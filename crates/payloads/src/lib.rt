@@ -111,7 +111,7 @@ fn list_of(w: &[u8], at: usize, start: usize, kind: Kind) -> Result<Opening, Ref
     }
 }
 
-// After the first byte at a place come the size and the payload with its list.
+// After the first byte at a place come the size and the payload with its list. Each test has a refusal of its own, in the order of the rules.
 #[tactic(auto, using(meaning::proofs::Rules::tests, crate::proofs::Fronts::list_window), unfolding(crate::specs::Payload::opening_at))]
 pub fn opening_at(w: &[u8], at: usize, kind: Kind) -> Result<Opening, Refusal>
     requires { at < length w.now }

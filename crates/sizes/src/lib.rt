@@ -17,7 +17,7 @@ use payloads::first::{First, Kind, PAST_PRIMITIVES, PRIMITIVES, SHORT_BLANKS};
 use sheets::Sheet;
 use steps::{HEAD_SIZE, LONG_BLANK};
 
-// The length and the depth of a shape, and whether it is a primitive.
+// The length and the depth of a shape, and whether it is a primitive: beside them and no Option, since a short blank has the same two and is none.
 #[derive(Clone, Copy)]
 pub struct Size {
     pub length: usize,
@@ -32,7 +32,7 @@ pub struct Sized {
     pub size: Size,
 }
 
-// The items of a list so far: their bytes, the depth of the deepest, and whether all are primitives.
+// The items of a list so far: their bytes, the depth of the deepest, and whether all are primitives, which a list asks for at its end.
 #[derive(Clone, Copy)]
 pub struct Sum {
     pub length: usize,

@@ -52,7 +52,7 @@ pub const DIGIT: u64 = 4;
 // The kinds of 16 levels are below this.
 const KINDS_LAID_BY: u64 = 4294967296;
 
-// What items are, as a digit of kinds. TEXTS stands for every number that is none of the others.
+// What items are, as a digit of kinds. `Items::Texts` stands for every number that is none of the others.
 const PLAIN: u64 = Items::Plain as u64;
 
 pub const BARE: u64 = Items::Bare as u64;
@@ -91,7 +91,7 @@ pub const NO_ENTRY: Entry = Entry {
     due: 0,
 };
 
-// What items are, by their digit. No From, here and below: both types are of other crates.
+// What items are, by their digit. No From of `Items`, since that every other digit is a Symbol's texts is so of a state alone.
 #[tactic(auto, using(meaning::proofs::Rules::tests))]
 fn items_of(number: u64) -> Items
     ensures { result ≡ items_of number }
@@ -117,12 +117,14 @@ impl From<Level> for Entry {
     }
 }
 
+// The kinds of the levels laid by, and over them that of one more.
 pub fn kinds_with(kinds: u64, top: Level) -> u64
     ensures { result ≡ kinds_with kinds top }
 {
     kinds % KINDS_LAID_BY * DIGIT + top.items as u64
 }
 
+// The level of an entry, its items by the lowest digit of kinds.
 pub fn level_of(entry: Entry, kinds: u64) -> Level
     ensures { result ≡ level_in entry kinds }
 {
@@ -134,7 +136,7 @@ pub fn level_of(entry: Entry, kinds: u64) -> Level
     }
 }
 
-// A kind by its number.
+// A kind by its number, as a word has it. No `From<u16>` of `Kind`, since that every other number is a Variable is so of a word alone.
 #[tactic(auto, using(meaning::proofs::Rules::tests))]
 fn kind_of(number: u16) -> Kind
     ensures { result ≡ kind_in number }

@@ -15,7 +15,7 @@ pub const HEAD_SIZE: usize = 3;
 // A blank in its long form: head and number.
 pub const LONG_BLANK: usize = 5;
 
-// The place after the shape with a payload at a place.
+// The place after the shape with a payload at a place. Each test must come before the read after it.
 #[tactic(auto, using(meaning::proofs::Rules::tests), unfolding(crate::specs::Steps::past_long))]
 pub fn past_long(s: &[u8], at: usize) -> usize
     requires { at ≤ length s.now }

@@ -22,7 +22,7 @@ pub const LINK_SIZE: usize = 4;
 
 pub const NAME_SIZE: usize = 4;
 
-// The kinds of nodes that are no primitives.
+// The kinds of nodes that are no primitives: numbers, since a node may come with any byte, and its kind is believed only once it was judged.
 pub const ARRAY: u8 = 5;
 
 pub const MAP: u8 = 6;
@@ -168,7 +168,7 @@ pub fn name_at(rest: &[u8], links: usize, k: usize) -> Name
     }
 }
 
-// How the links of a node are judged: without names, with names, or as a Symbol's texts.
+// How the links of a node are judged: without names, with names, or as a Symbol's texts. An enum and no closure: contracts speak of the way.
 #[derive(Clone, Copy)]
 pub enum Way {
     Bare,
