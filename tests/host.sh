@@ -92,6 +92,14 @@ else
     rust_tests -p shiulbart --doc
 fi
 
+# what the archive asks of its host: README.md says that it is memset alone
+asked=$("$("$compiler" -print-prog-name=nm)" -u "$archive" | sed -n 's/^ *U //p' | sort -u)
+if [ "$asked" = memset ]; then
+    passed=$((passed + 1))
+else
+    wrong "the archive asks its host for: $(printf '%s' "$asked" | tr '\n' ' ')"
+fi
+
 # the header, from C99 and C11 and, where there is a compiler for it, as C++
 strict=(-Wall -Wextra -Werror -pedantic -I "$top/include")
 if "$compiler" -std=c99 "${strict[@]}" "$top/tests/header.c" "$archive" -o "$scratch/header" 2>&1; then

@@ -4,7 +4,7 @@
 --     exported-name      of a name
 --     exported-sheet     of a sheet
 --     exported-made      of fill, join, the writer and the way back
---     made-fits          it fits
+--     made-fits          that it fits, of these four
 --     Given              an answer that fits, and is the one to be given
 -- Assumes nothing.
 use Prim.Native.Nat.{ℕ, ◌≤◌, ◌<◌}
@@ -26,11 +26,11 @@ use Rattle.meaning.proofs.Rules.{rule, both}
 use Rattle.meaning.proofs.Laws.{encode-reading}
 use Rattle.meaning.proofs.Faults.{refusal-small}
 use Rattle.meaning.proofs.SheetBytes.{sheet-read, sheet-refusal}
-use Rattle.meaning.proofs.Bounds.{farthest, Small}
+use Rattle.meaning.proofs.Bounds.{farthest, Small, Told}
 use Rattle.meaning.proofs.Parts.{children-few, names_few, child-inside, packed-number, name-inside}
 use Rattle.std.specs.Prelude.{Err}
-use Rattle.leaves.specs.Faults.{refusal}
-use Rattle.leaves.proofs.Faults.{number-fault}
+use Rattle.leaves.specs.Faults.{fault_of, refusal}
+use Rattle.leaves.proofs.Faults.{number-fault, fault-small}
 use Rattle.buffers.specs.Said.{made_said}
 use Rattle.reader.specs.Said.{said}
 use Rattle.parts.specs.Said.{told_child, child_said, name_said}
@@ -56,14 +56,15 @@ given-refusal number place n p = given (refused number place) n p (omega arith) 
 refusal-told : {A : Type 0} (put : A → Answer) (number place : ℕ) → 0 < number → number ≤ no_such_part → place ≤ farthest → Given (said_put put (Err (refusal number place))) (refused number place)
 refusal-told put number place s n p = rw (number-fault number s n) (given-refusal number place n p)
 
--- What a call that writes says, small as it is, is what the exported call says.
-pub exported-made : (a : Meant.Answer) → Small a → Given (said_put written_put (made_said a)) (made_answer a)
+-- What a call that writes says, told as it is, is what the exported call says.
+pub exported-made : (a : Meant.Answer) → Told a → Given (said_put written_put (made_said a)) (made_answer a)
 exported-made (Meant.answered w) h = given _ (omega arith) (omega arith) (omega arith) (omega arith)
 exported-made (Meant.refused number place) h = refusal-told written_put number place h.0 h.1 h.2
 
--- So it fits.
+-- What a call that writes says, small as it is, fits.
 pub made-fits : (a : Meant.Answer) → Small a → Fits (said_put written_put (made_said a))
-made-fits a h = (exported-made a h).fits
+made-fits (Meant.answered w) h = (omega arith, omega arith, omega arith, omega arith)
+made-fits (Meant.refused number place) h = (omega (arith, fault-small (fault_of number)), omega arith, omega arith, omega arith)
 
 module _ (s : List ℕ) (bytes : Bytes s) where
   -- An input is a shape within the limits, or is refused with small numbers.

@@ -41,7 +41,11 @@ sound_put sheet = answered 0 sheet.bytes sheet.entries
 abbrev pub written_put : ℕ → Answer
 written_put length = answered 0 length 0
 
--- what was said is put into numbers as it is; a refusal has its number and place
+-- what was said is put into numbers as it is; what was refused, by its number and place
+abbrev pub result_put : {T E : Type 0} → (T → Answer) → (E → ℕ) → (E → ℕ) → Result T E → Answer
+result_put put number place (Ok it) = put it
+result_put put number place (Err r) = refused (number r) (place r)
+
+-- a refusal has its number and place
 abbrev pub said_put : {T : Type 0} → (T → Answer) → Result T Refusal → Answer
-said_put put (Ok it) = put it
-said_put put (Err r) = refused (number_of r.fault) r.place
+said_put put = result_put put (λ r. number_of r.fault) (λ r. r.place)

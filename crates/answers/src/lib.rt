@@ -2,10 +2,10 @@
 #![tactic(auto)]
 
 ghost use Rattle.std.specs.Prelude.{ℕ, ◌≡◌, ◌<◌};
-ghost use Rattle.answers.specs.Answers.{answered, refused, Fits, said_put, accepted_put, child_put, name_put, sound_put, written_put};
+ghost use Rattle.answers.specs.Answers.{answered, refused, Fits, result_put, accepted_put, child_put, name_put, sound_put, written_put};
 ghost use Rattle.answers.specs.declared.Answer.{Answer};
 
-use leaves::refusals::Refusal;
+use leaves::refusals::Refuses;
 use parts::{FoundChild, FoundName};
 use reader::Accepted;
 use sheets::Sound;
@@ -21,7 +21,7 @@ pub struct Answer {
 }
 
 // An answer in 32 bits a number.
-pub fn answer_of(place: usize, length: usize, extra: usize) -> Answer
+fn answer_of(place: usize, length: usize, extra: usize) -> Answer
     requires { (place < 4294967296) × (length < 4294967296) × (extra < 4294967296) }
     ensures { result ≡ answered place length extra }
 {
@@ -34,7 +34,7 @@ pub fn answer_of(place: usize, length: usize, extra: usize) -> Answer
 }
 
 // A refusal in 32 bits a number.
-pub fn refusal_of(number: usize, place: usize) -> Answer
+fn refusal_of(number: usize, place: usize) -> Answer
     requires { (number < 4294967296) × (place < 4294967296) }
     ensures { result ≡ refused number place }
 {
@@ -104,12 +104,12 @@ impl Said for usize {
 }
 
 // What a call says: its answer, or its refusal.
-pub fn in_numbers<T: Said>(said: Result<T, Refusal>) -> Answer
-    requires { Fits (said_put T.put said) }
-    ensures { result ≡ said_put T.put said }
+pub fn in_numbers<T: Said, E: Refuses>(said: Result<T, E>) -> Answer
+    requires { Fits (result_put T.put E.number_told E.place_told said) }
+    ensures { result ≡ result_put T.put E.number_told E.place_told said }
 {
     match said {
         Ok(it) => it.told(),
-        Err(refusal) => refusal_of(refusal.fault.number(), refusal.place),
+        Err(refusal) => refusal_of(refusal.number(), refusal.place()),
     }
 }

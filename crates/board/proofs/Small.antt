@@ -2,7 +2,7 @@
 --     finish_put         what is said at the finish of a reader that is fed with parts, in four numbers
 --     judged-fits        it fits, whatever the reader's state
 --     finish-put         of bytes it is what the whole reader says
---     records-small      of the writer of records
+--     records-told, records-small     of the writer of records
 -- Assumes nothing.
 use Prim.Native.Nat.{ℕ}
 use mathlib.Core.Path.{◌≡◌, refl}
@@ -14,8 +14,8 @@ use Rattle.meaning.specs.Limits.{max_nodes}
 use Rattle.meaning.specs.Shape.{Shape}
 use Rattle.meaning.specs.Reading.{Reading, got, bad}
 use Rattle.meaning.proofs.Rules.{rule}
-use Rattle.meaning.proofs.Bounds.{Small}
-use Rattle.meaning.proofs.TableAnswers.{write-small}
+use Rattle.meaning.proofs.Bounds.{Small, Told, told-small}
+use Rattle.meaning.proofs.TableAnswers.{write-told}
 use Rattle.std.specs.Prelude.{Result, Ok, Err}
 use Rattle.reader.specs.declared.Accepted.{Accepted}
 use Rattle.pieces.specs.declared.Faulty.{Faulty}
@@ -41,10 +41,13 @@ pub finish-put : (r : Reading Shape) → finish_put (pieces.finish_said r) ≡ r
 finish-put (got s left) = refl
 finish-put (bad number place) = refl
 
--- What the writer of records answers is small: it refuses at once, or answers as the writer of tables does.
-pub records-small : (nodes : List Node) (rest : List ℕ) (room : ℕ) → Small (records_answer nodes rest room)
+-- What the writer of records answers is told, and small: it refuses at once, or answers as the writer of tables does.
+pub records-told : (nodes : List Node) (rest : List ℕ) (room : ℕ) → Told (records_answer nodes rest room)
 unfolding records_answer
-records-small nodes rest room =
-    rule Small (ltb (length nodes) 1) _ _ (λ _. (omega arith, omega arith, omega arith)) λ _.
-    rule Small (ltb max_nodes (length nodes)) _ _ (λ _. (omega arith, omega arith, omega arith)) λ _.
-    write-small (same_table nodes rest) room
+records-told nodes rest room =
+    rule Told (ltb (length nodes) 1) _ _ (λ _. (omega arith, omega arith, omega arith)) λ _.
+    rule Told (ltb max_nodes (length nodes)) _ _ (λ _. (omega arith, omega arith, omega arith)) λ _.
+    write-told (same_table nodes rest) room
+
+pub records-small : (nodes : List Node) (rest : List ℕ) (room : ℕ) → Small (records_answer nodes rest room)
+records-small nodes rest room = told-small _ (records-told nodes rest room)

@@ -12,7 +12,7 @@ ghost use Rattle.pieces.specs.Led.{closed_of, led_to};
 ghost use Rattle.answers.specs.Calls.{read_answer, child_answer, name_answer, sheet_answer, made_answer};
 ghost use Rattle.board.specs.Answers.{records_answer};
 
-use answers::{Answer, answer_of, in_numbers, refusal_of};
+use answers::{Answer, in_numbers};
 use byte_steps::modes::Mode;
 use editor::Node;
 use pieces::{halted, lettered, letters_only};
@@ -162,12 +162,8 @@ pub fn shiulbart_pieces_finish(state: State) -> PiecesEnd
     ensures led { (u : List ℕ) → Bytes u → closed_of state ≡ closed_of (led_to u) → result.answer ≡ read_answer (reading u) }
 {
     let finished = pieces::finish(state);
-    let answer = match finished.answer {
-        Ok(it) => answer_of(0, it.length, it.depth),
-        Err(it) => refusal_of(it.number as usize, it.place as usize),
-    };
     PiecesEnd {
         state: finished.state,
-        answer,
+        answer: in_numbers(finished.answer),
     }
 }

@@ -5,17 +5,18 @@
 --     written_after      what is written right after joins what was written
 --     written-before     so does what is written right before
 --     written_apart      what is written before a run, apart from it, may as well be written first
+--     part-more          one byte more of a part
 --     part-slice         a part of a slice, as the code has it
 --     buffer-made        what is written from the front on is what a buffer holds after that answer
 -- Assumes nothing.
-use mathlib.Core.Path.{◌≡◌, sym}
+use mathlib.Core.Path.{◌≡◌, sym, ◌∙◌}
 use mathlib.Core.List.{List, [], ◌∷◌, ◌++◌, append_assoc}
-use Prim.Native.Nat.{ℕ, ◌+◌, ◌-◌, ◌≤◌, ◌<◌}
+use Prim.Native.Nat.{ℕ, suc, ◌+◌, ◌-◌, ◌≤◌, ◌<◌}
 use native.Mathlib.Nat.{add-zero, zero-add, add_assoc}
 use native.Mathlib.Omega.{arith}
 use native.Mathlib.Numerals.{add-one}
-use lib.ListN.{length, take, drop, set, length-append, length-drop, take-append-drop}
-use lib.Seq.{slice, set_split, length-take-le, length-slice, take_at, drop_at, drop-drop, drop-append-le, take-append-le, take-take}
+use lib.ListN.{length, take, drop, set, get_or, length-append, length-drop, take-append-drop}
+use lib.Seq.{slice, set_split, length-take-le, length-slice, take_at, drop_at, drop-drop, drop-append-le, take-append-le, take-take, take-suc}
 use Rattle.std.proofs.lemmas.List.{drop-take}
 use Rattle.meaning.specs.Answers.{answered, buffer_after}
 use Rattle.buffers.specs.Written.{written}
@@ -72,6 +73,19 @@ written_apart d to at x y h k =
     let q : written d to x ≡ written d to (x ++ g) = rw s at (written-before d to x g (omega arith)) in
     let u : written (written d to (x ++ g)) at y ≡ written d to ((x ++ g) ++ y) = rw o at (written_after d to (x ++ g) y (omega arith)) in
     rw (p, q, u, append_assoc) (written-before d to x (g ++ y) (rw length-append (omega arith)))
+
+slice-more : (s : List ℕ) (from i : ℕ) → from + i < length s → slice from (from + (i + 1)) s ≡ slice from (from + i) s ++ (get_or s (from + i) 0 ∷ [])
+slice-more s from i h =
+    let z : from + (i + 1) ≡ suc (from + i) = omega arith in
+    rw (z, take-suc s (from + i) 0 h) (drop-append-le from (take (from + i) s) _ (rw (length-take-le (from + i) s (omega arith)) (omega arith)))
+
+pub part-more : (d : List ℕ) (to : ℕ) (s : List ℕ) (from i : ℕ) → from + i < length s → to + i < length d
+    → set (written d to (slice from (from + i) s)) (to + i) (get_or s (from + i) 0) ≡ written d to (slice from (from + (i + 1)) s)
+part-more d to s from i h k =
+    let l : length (slice from (from + i) s) ≡ i = length-slice from (from + i) s (omega arith) ∙ omega arith in
+    let m : to + length (slice from (from + i) s) ≤ length d = rw l (omega arith) in
+    written_one (written d to (slice from (from + i) s)) (to + i) (get_or s (from + i) 0) (rw (written-length d to (slice from (from + i) s) m) k)
+    ∙ rw (slice-more s from i h) (rw l at (written_after d to (slice from (from + i) s) (get_or s (from + i) 0 ∷ []) m))
 
 pub buffer-made : (d w : List ℕ) → written d 0 w ≡ buffer_after d (answered w)
 unfolding written buffer_after

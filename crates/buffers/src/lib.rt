@@ -70,11 +70,13 @@ pub fn put_leb(out: &mut [u8], to: usize, n: usize) -> usize
     to + 2
 }
 
-// All of a slice's bytes.
-#[tactic(auto, unfolding(crate::specs::Written::written))]
+// All of a slice's bytes, one after the other: of `copy_from_slice` the compiler makes a call of `memmove`, which every host would have to bring, and
+// most parts have a byte or none.
 pub fn put_bytes(out: &mut [u8], to: usize, bytes: &[u8])
     requires { to + length bytes.now ≤ length out.old }
     ensures { out.new ≡ written out.old to bytes.now }
 {
-    out[to..to + bytes.len()].copy_from_slice(bytes);
+    for i in 0..bytes.len() {
+        out[to + i] = bytes[i];
+    }
 }

@@ -16,8 +16,7 @@ use Rattle.meaning.specs.Refusals.{cut_short, unfinished}
 use Rattle.meaning.proofs.Rules.{facts, rule}
 use Rattle.leaves.proofs.Numbers.{steps, leb-steps}
 use Rattle.std.specs.Prelude.{Ok, Err}
-use Rattle.leaves.specs.Faults.{fault_at}
-use Rattle.leaves.specs.declared.refusals.Fault.TheVariants.{NumberWrong}
+use Rattle.leaves.specs.Faults.{refusal}
 use Rattle.leaves.specs.declared.refusals.Refusal.{Refusal}
 use Rattle.payloads.specs.Payload.{text_of, label_at, text_at, text_from, named}
 use Rattle.reader.specs.Walk.{stopped_by, stopped, walk_items, walk_shape, walk_all, shape_with, depths}
@@ -88,7 +87,7 @@ module _ (s : List ℕ) where
     -- no byte is left for a length
     pub texts-none : (items : Items) → named (kind_of items) ≡ true → stop ≤ length s → leb stop at ≡ true → texts s (l ∷ ls) (level from stop due items) ds at ≡ stopped unfinished at
     unfolding text_at text_from steps
-    texts-none items h k p = texts-bad items (fault_at NumberWrong at) h (rw (leb-steps s stop at k, p))
+    texts-none items h k p = texts-bad items (refusal unfinished at) h (rw (leb-steps s stop at k, p))
 
   module _ {l : Level} {ls : List Level} {top : Level} {at whole deepest : ℕ}
       (short : length s < whole → walk_all depths s ≡ stopped cut_short 0) (nested : Nested (l ∷ ls) top whole) where

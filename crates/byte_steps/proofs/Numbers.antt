@@ -13,8 +13,8 @@ use Rattle.meaning.specs.Refusals.{unfinished, over_two_bytes, not_shortest, lon
 use Rattle.meaning.specs.FirstByte.{short_blanks}
 use Rattle.meaning.proofs.Rules.{facts, rule}
 use Rattle.std.specs.Prelude.{Ok, Err}
-use Rattle.leaves.specs.Faults.{fault_at}
-use Rattle.leaves.specs.declared.refusals.Fault.TheVariants.{NumberWrong}
+use Rattle.leaves.specs.Faults.{number_of, fault_of, fault_at, refusal}
+use Rattle.leaves.specs.declared.refusals.Fault.{Fault}
 use Rattle.leaves.specs.Leb.{leb_of, leb_at}
 use Rattle.leaves.proofs.Numbers.{steps, leb-steps}
 use Rattle.payloads.specs.Payload.{counted_at, counted_by, short_form_of, small_at}
@@ -98,15 +98,15 @@ module _ (s : List ℕ) where
     unfolding steps
     leb-one h p = rw (leb-steps s stop at k, lt-leb stop at h, p)
 
-    pub leb-cut : at < stop → ltb (get_or s at 0) 128 ≡ false → leb stop (at + 1) ≡ true → leb_at s stop at ≡ Err (fault_at NumberWrong at)
+    pub leb-cut : at < stop → ltb (get_or s at 0) 128 ≡ false → leb stop (at + 1) ≡ true → leb_at s stop at ≡ Err (refusal unfinished at)
     unfolding steps
     leb-cut h p q = rw (leb-steps s stop at k, lt-leb stop at h, p, q)
 
-    pub leb-over : at + 1 < stop → ltb (get_or s at 0) 128 ≡ false → leb 128 (get_or s (at + 1) 0) ≡ true → leb_at s stop at ≡ Err (fault_at NumberWrong at)
+    pub leb-over : at + 1 < stop → ltb (get_or s at 0) 128 ≡ false → leb 128 (get_or s (at + 1) 0) ≡ true → leb_at s stop at ≡ Err (refusal over_two_bytes at)
     unfolding steps
     leb-over h p q = rw (leb-steps s stop at k, lt-leb stop at (omega arith), p, lt-leb stop (at + 1) h, q)
 
-    pub leb_long : at + 1 < stop → ltb (get_or s at 0) 128 ≡ false → leb 128 (get_or s (at + 1) 0) ≡ false → eqb (get_or s (at + 1) 0) 0 ≡ true → leb_at s stop at ≡ Err (fault_at NumberWrong at)
+    pub leb_long : at + 1 < stop → ltb (get_or s at 0) 128 ≡ false → leb 128 (get_or s (at + 1) 0) ≡ false → eqb (get_or s (at + 1) 0) 0 ≡ true → leb_at s stop at ≡ Err (refusal not_shortest at)
     unfolding steps
     leb_long h p q r = rw (leb-steps s stop at k, lt-leb stop at (omega arith), p, lt-leb stop (at + 1) h, q, r)
 
@@ -124,9 +124,9 @@ module _ (s : List ℕ) where
 
   -- a list's count
   module _ (l : Level) (ls : List Level) (top : Level) (ds : List ℕ) (at : ℕ) where
-    counts-fault : leb_at s top.stop at ≡ Err (fault_at NumberWrong at) → counts s (l ∷ ls) top ds at ≡ stopped unfinished at
+    counts-fault : (f : Fault) → leb_at s top.stop at ≡ Err (fault_at f at) → counts s (l ∷ ls) top ds at ≡ stopped (number_of f) at
     unfolding counted_at counted_by
-    counts-fault e = rw e
+    counts-fault f e = rw e
 
     counts-number : (v next : ℕ) → plain top.items ≡ false → leb_at s top.stop at ≡ Ok (leb_of v next) → counts s (l ∷ ls) top ds at ≡ resume s (l ∷ ls) (with_due top (v + more top.items)) ds next
     unfolding counted_at counted_by resume listed
@@ -162,7 +162,7 @@ module _ (s : List ℕ) where
       })
       go false p = rw p
           (rule (λ m. Good s m (l ∷ ls) top (at + 1) whole deepest) (leb top.stop (at + 1)) _ _
-          (λ q. stands s g refl λ w ds i. i ∙ counts-fault l ls top ds at (leb-cut top.stop at (in-s w) (omega (arith, g.fits.0)) p q))
+          (λ q. stands s g refl λ w ds i. i ∙ counts-fault l ls top ds at (fault_of unfinished) (leb-cut top.stop at (in-s w) (omega (arith, g.fits.0)) p q))
           λ q. record {
             short = g.short;
             held = λ w. let h = g.held w in record { ds = h.ds; is = h.is; deep = h.deep };
@@ -176,9 +176,9 @@ module _ (s : List ℕ) where
   count-more from low [] top at whole deepest g = absurd g.fits.1
   count-more from low (l ∷ ls) top at whole deepest g =
       rule P (leb 128 (get_or s at 0)) _ _
-      (λ p. stands s g refl λ w ds i. i ∙ counts-fault l ls top ds from (leb-over top.stop from (in-s w) room first (rw here at p)))
+      (λ p. stands s g refl λ w ds i. i ∙ counts-fault l ls top ds from (fault_of over_two_bytes) (leb-over top.stop from (in-s w) room first (rw here at p)))
       λ p. rule P (eqb (get_or s at 0) 0) _ _
-      (λ q. stands s g refl λ w ds i. i ∙ counts-fault l ls top ds from (leb_long top.stop from (in-s w) room first (rw here at p) (rw here at q)))
+      (λ q. stands s g refl λ w ds i. i ∙ counts-fault l ls top ds from (fault_of not_shortest) (leb_long top.stop from (in-s w) room first (rw here at p) (rw here at q)))
       λ q. record {
         short = g.short;
         held = λ w. let h = g.held w in record {

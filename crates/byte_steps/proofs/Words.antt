@@ -15,8 +15,9 @@ use Rattle.meaning.specs.Utf8.{utf8, goes_on, well_formed, chars_size}
 use Rattle.meaning.proofs.Rules.{facts, rule}
 use Rattle.meaning.proofs.Window.{window-none, window-some}
 use Rattle.std.specs.Prelude.{Option, Some, None, Ok, Err}
-use Rattle.leaves.specs.Faults.{fault_at}
-use Rattle.leaves.specs.declared.refusals.Fault.TheVariants.{CutShort, NumberWrong, NotUtf8}
+use Rattle.leaves.specs.Faults.{number_of, fault_of, fault_at}
+use Rattle.leaves.specs.declared.refusals.Fault.{Fault}
+use Rattle.leaves.specs.declared.refusals.Fault.TheVariants.{CutShort, NotUtf8}
 use Rattle.leaves.specs.Leb.{leb_of, leb_at}
 use Rattle.payloads.specs.Payload.{text_at, text_from, named}
 use Rattle.reader.specs.Walk.{Out, stopped, walk_all, depths}
@@ -58,9 +59,9 @@ module _ (s : List ℕ) where
 
   -- an item whose text's length is read
   module _ (l : Level) (ls : List Level) (top : Level) (ds : List ℕ) (at : ℕ) (n : named (kind_of top.items) ≡ true) where
-    texts-fault : leb_at s top.stop at ≡ Err (fault_at NumberWrong at) → texts s (l ∷ ls) top ds at ≡ stopped unfinished at
+    texts-fault : (f : Fault) → leb_at s top.stop at ≡ Err (fault_at f at) → texts s (l ∷ ls) top ds at ≡ stopped (number_of f) at
     unfolding text_at text_from
-    texts-fault e = texts-bad s l ls ds top.at top.stop top.due at top.items (fault_at NumberWrong at) n (rw e)
+    texts-fault f e = texts-bad s l ls ds top.at top.stop top.due at top.items (fault_at f at) n (rw e)
 
     texts-cut : (size start : ℕ) → leb_at s top.stop at ≡ Ok (leb_of size start) → top.stop - start < size → texts s (l ∷ ls) top ds at ≡ stopped cut_short at
     unfolding text_at text_from
@@ -130,7 +131,7 @@ module _ (s : List ℕ) where
       let h = g.held w in
       (leb-one s top.stop at (in-s w) (omega (arith, g.fits.0)) p, record { ds = h.ds; is = h.is; deep = h.deep }))
       λ p. rule P (leb top.stop (at + 1)) _ _
-      (λ q. stands s g refl λ w ds i. i ∙ texts-fault l ls top ds at g.fits.1 (leb-cut s top.stop at (in-s w) (omega (arith, g.fits.0)) p q))
+      (λ q. stands s g refl λ w ds i. i ∙ texts-fault l ls top ds at g.fits.1 (fault_of unfinished) (leb-cut s top.stop at (in-s w) (omega (arith, g.fits.0)) p q))
       λ q. record {
         short = g.short;
         held = λ w. let h = g.held w in record { ds = h.ds; is = h.is; deep = h.deep };
@@ -150,9 +151,9 @@ module _ (s : List ℕ) where
   length_more_lem from low [] top at whole deepest g = absurd g.fits.1
   length_more_lem from low (l ∷ ls) top at whole deepest g =
       rule P (leb 128 (get_or s at 0)) _ _
-      (λ p. stands s g refl λ w ds i. i ∙ texts-fault l ls top ds from g.fits.4 (leb-over s top.stop from (in-s w) room first (rw here at p)))
+      (λ p. stands s g refl λ w ds i. i ∙ texts-fault l ls top ds from g.fits.4 (fault_of over_two_bytes) (leb-over s top.stop from (in-s w) room first (rw here at p)))
       λ p. rule P (eqb (get_or s at 0) 0) _ _
-      (λ q. stands s g refl λ w ds i. i ∙ texts-fault l ls top ds from g.fits.4 (leb_long s top.stop from (in-s w) room first (rw here at p) (rw here at q)))
+      (λ q. stands s g refl λ w ds i. i ∙ texts-fault l ls top ds from g.fits.4 (fault_of not_shortest) (leb_long s top.stop from (in-s w) room first (rw here at p) (rw here at q)))
       λ q. text-due l ls top from (at + 1) (low % 128 + 128 * get_or s at 0) whole deepest g.fits.4 g.fits.1 g.short g.nested λ w.
       let h = g.held w in
       (leb-two s top.stop from (in-s w) room first (rw here at p) (rw here at q) ∙ rw (← here, ← g.fits.2, next), record { ds = h.ds; is = h.is; deep = h.deep })

@@ -133,7 +133,7 @@ fn length_due(top: Level, at: u16) -> Mode
     ensures { result ≡ length_due top at }
 {
     if top.stop <= at {
-        Mode::faulty(Fault::NumberWrong, at)
+        Mode::faulty(Fault::UNFINISHED, at)
     } else {
         Mode::Length
     }
@@ -253,7 +253,7 @@ fn leb_more(top: Level, at: u16, going: Mode) -> Mode
     ensures { result ≡ (leb top.stop (at + 1) ⇒ Faulty unfinished at ∣ λ _. going) }
 {
     if top.stop <= at + 1 {
-        Mode::faulty(Fault::NumberWrong, at)
+        Mode::faulty(Fault::UNFINISHED, at)
     } else {
         going
     }
@@ -296,8 +296,11 @@ pub fn count_more(top: Level, deepest: u16, from: u16, low: u8, b: u8) -> Took
     ensures { result ≡ count_more top deepest from low b }
 {
     let all = top.with_due(low as u16 % 128 + 128 * b as u16 + top.items.more());
-    if 128 <= b || b == 0 {
-        return refused(Fault::NumberWrong, from, all, deepest);
+    if 128 <= b {
+        return refused(Fault::OVER_TWO_BYTES, from, all, deepest);
+    }
+    if b == 0 {
+        return refused(Fault::NOT_SHORTEST, from, all, deepest);
     }
     Took {
         mode: Mode::Between,
@@ -324,8 +327,10 @@ pub fn length_more(top: Level, from: u16, low: u8, next: u16, b: u8) -> Mode
     requires { next ≤ max_bytes }
     ensures { result ≡ length_more top from low next b }
 {
-    if 128 <= b || b == 0 {
-        Mode::faulty(Fault::NumberWrong, from)
+    if 128 <= b {
+        Mode::faulty(Fault::OVER_TWO_BYTES, from)
+    } else if b == 0 {
+        Mode::faulty(Fault::NOT_SHORTEST, from)
     } else {
         text_due(top, from, next, low as u16 % 128 + 128 * b as u16)
     }

@@ -3,18 +3,19 @@
 --     texts-next, texts-none                      after some of the texts, one more is gathered, and the others follow it; after all, none more is
 --     items-next, items-end                       so it is with the items of a list
 --     Texts, texts-start, texts-turn, texts-end   what the loop over a Symbol's texts keeps, and what it has at the end
---     Tallied, tally-turn, tally-end              what the loop over a list's items keeps, and what it has at the end
+--     Tallied, tally-first, tally-turn, tally-end what the loop over a list's items keeps, with what it has at first and at the end
 --     text-within, shape-within, text-short       a name that is due ends inside; with its text the texts are no longer than the bytes passed over
---     text_few, shape-few, sum-few                where all items add few, so does each sum on the way
---     none-counted                                where no shape stands, nothing is counted
+--     text_few, shape-few                         where all items add few, so does each sum on the way
+--     none-counted                                where no shape stands, nothing is added
 --     IsList, is-list                             at a place stands a list of these items
+--     short-plus                                  a shape of one byte adds nodes and links
 --     list-few, list-sum, list_counted            a list, from what its items add
 -- Assumes nothing.
 use mathlib.Core.Path.{◌≡◌, refl, sym, ap, subst, ◌∙◌}
 use mathlib.Core.List.{List}
 use mathlib.Core.Bool.{Bool, true, false}
 use Prim.Native.Nat.{ℕ, zero, suc, ◌+◌, ◌-◌, ◌≤◌, ◌<◌, max}
-use native.Mathlib.Nat.{zero-add, sub-zero}
+use native.Mathlib.Nat.{add-zero, zero-add, add_assoc, sub-zero}
 use native.Mathlib.Numerals.{sub-one}
 use native.Mathlib.Omega.{arith}
 use lib.Dec.{leb}
@@ -32,15 +33,21 @@ use Rattle.steps.specs.Steps.{head_size, first_at, past_name, list_at, ListingIn
 use Rattle.steps.specs.Pass.{Came, came, Passer, pass_items, pass_shape}
 use Rattle.steps.proofs.Passing.{list-items, items-one, items-none}
 use Rattle.counts.specs.declared.Counts.{Counts}
-use Rattle.counts.specs.declared.Counted.{Counted}
 use Rattle.counts.specs.declared.Tally.{Tally}
-use Rattle.counts.specs.Pieces.{none, plus, Few, text_from, text_in, Piece, Gathered, nothing, no_items, with_item, own_counts, list_piece, gather_texts, texts_of, symbol_piece, pieces}
-use Rattle.counts.specs.Counts.{nothing_counted, CountedIs, TallyIs, FewItems}
-use Rattle.counts.proofs.Grows.{below-few, grows, items-count}
+use Rattle.counts.specs.Pieces.{many, none, plus, Few, text_from, text_in, Piece, Gathered, nothing, no_items, with_item, own_counts, list_piece, gather_texts, texts_of, symbol_piece, pieces}
+use Rattle.counts.specs.Counts.{AddedIs, TallyIs, FewItems}
+use Rattle.counts.proofs.Grows.{grows, items-count}
 
--- Nothing added to counts leaves them.
+-- Nothing added to counts leaves them, on either side.
 none-plus : (c : Counts) → plus none c ≡ c
 none-plus c = simp zero-add
+
+plus-none : (c : Counts) → plus c none ≡ c
+plus-none c = simp add-zero
+
+-- Counts may be added in any grouping.
+plus-assoc : (a b c : Counts) → plus (plus a b) c ≡ plus a (plus b c)
+plus-assoc a b c = simp add_assoc
 
 -- the part of a list from at up to start, as the code takes it
 abbrev pub part : ℕ → ℕ → List ℕ → List ℕ
@@ -56,7 +63,7 @@ text_short w = omega (arith, length-drop (text_from w) w)
 
 module _ (w : List ℕ) (at : ℕ) (a : Gathered) where
   -- One text is gathered, and the others follow it.
-  texts-one : (due : ℕ) → 0 < due
+  pub texts-one : (due : ℕ) → 0 < due
       → gather_texts due w at a ≡ gather_texts (due - 1) w (past_name w at Symbol) (with_item a (slice at (past_name w at Symbol) w) nothing)
   unfolding gather_texts
   texts-one zero h = absurd (omega arith)
@@ -149,17 +156,21 @@ module _ {w : List ℕ} {from count at text k : ℕ} (t : Texts w from count at 
       let i : t.a.items ≡ count = omega (arith, t.items-are) in
       rw (e, t.shapeless, i, ← t.text_is) (sym (none-plus _))
 
--- what the loop over a list's items keeps after k of them, which a passes over: their counts and the length of their texts are found, and those that
--- are due end as the whole list does
-pub record Tallied (inner : Passer Piece) (kind : Kind) (s : List ℕ) (from count at : ℕ) (counts : Counts) (text k : ℕ) : Type 0 where
+-- what the loop over a list's items keeps after k of them, which a passes over: their counts are added to those before the list and the length of
+-- their texts is found, and those that are due end as the whole list does
+pub record Tallied (inner : Passer Piece) (kind : Kind) (s : List ℕ) (from count : ℕ) (base : Counts) (at : ℕ) (counts : Counts) (text k : ℕ) : Type 0 where
   pub a : Gathered
   pub goes : pass_items pieces inner kind count s from no_items ≡ pass_items pieces inner kind (count - k) s at a
-  pub counts-are : counts ≡ a.counts
+  pub counts-are : counts ≡ plus base a.counts
   pub text_is : text ≡ a.text
   pub inside : at ≤ length s
 
-module _ {inner : Passer Piece} {kind : Kind} {s : List ℕ} {from count at : ℕ} {counts : Counts} {text k : ℕ} (t : Tallied inner kind s from count at counts text k)
-    (few : FewItems (pass_items pieces inner kind count s from no_items).made) (due : k < count)
+-- At first no item is.
+pub tally-first : (inner : Passer Piece) (kind : Kind) (s : List ℕ) (from count : ℕ) (base : Counts) → from ≤ length s → Tallied inner kind s from count base from base 0 0
+tally-first inner kind s from count base i = record { a = no_items; goes = rw sub-zero; counts-are = sym (plus-none base); text_is = refl; inside = i }
+
+module _ {inner : Passer Piece} {kind : Kind} {s : List ℕ} {from count at : ℕ} {base counts : Counts} {text k : ℕ} (t : Tallied inner kind s from count base at counts text k)
+    (few : FewItems base (pass_items pieces inner kind count s from no_items).made) (due : k < count)
     {start : ℕ} (is : start ≡ past_name s at kind) (inside : (at ≤ start) × (start ≤ max at (length s))) where
   -- A shape that is due starts inside.
   pub shape-within : start ≤ length s
@@ -174,44 +185,44 @@ module _ {inner : Passer Piece} {kind : Kind} {s : List ℕ} {from count at : �
   goes_on_lem = t.goes ∙ items-next inner kind s at t.a k count due ∙ rw (← is)
 
   -- What they add is few.
-  more-few : FewItems more
+  more-few : FewItems base more
   more-few =
-      let f = rw goes_on_lem at few in let g = grows inner kind s (count - (k + 1)) (inner s start).next more in
-      (below-few _ _ g.counts f.0, omega (arith, g.text, f.1))
+      let f = rw goes_on_lem at few in let g = grows inner kind s (count - (k + 1)) (inner s start).next more in let c = g.counts in
+      ((omega (arith, c.nodes, f.0.0), omega (arith, c.links, f.0.1), omega (arith, c.names, f.0.2), omega (arith, c.text, f.0.3)), omega (arith, g.text, f.1))
 
   -- So the text is counted without a loss,
   pub text_few : {size : ℕ} → size ≡ length (text_in (part at start s)) → text + size < 65536
   text_few z = rw (z, t.text_is, part-is at start s inside.0 shape-within) more-few.1
 
-  -- what the shape adds is few,
-  pub shape-few : Few (inner s start).made.counts
-  shape-few = let f = more-few.0 in (omega (arith, f.0), omega (arith, f.1), omega (arith, f.2), omega (arith, f.3))
-
-  -- and so is the sum.
-  pub sum-few : {v : Counted} → CountedIs s v (inner s start) → Few (plus counts v.counts)
-  sum-few h = rw (t.counts-are, h.counts_is) more-few.0
+  -- and so is what the shape adds.
+  pub shape-few : Few (plus counts (inner s start).made.counts)
+  shape-few = let f = more-few.0 in rw t.counts-are (omega (arith, f.0), omega (arith, f.1), omega (arith, f.2), omega (arith, f.3))
 
   -- A turn keeps what is kept.
-  pub tally-turn : {size : ℕ} {v : Counted} {r : Counts} → size ≡ length (text_in (part at start s)) → CountedIs s v (inner s start) → r ≡ plus counts v.counts
-      → Tallied inner kind s from count v.next r (text + size) (k + 1)
-  tally-turn z h e = record {
+  pub tally-turn : {size next : ℕ} {r : Counts} → size ≡ length (text_in (part at start s)) → AddedIs s counts r next (inner s start)
+      → Tallied inner kind s from count base next r (text + size) (k + 1)
+  tally-turn z h = record {
     a = more;
     goes = goes_on_lem ∙ rw h.next_is;
-    counts-are = rw (e, t.counts-are, h.counts_is);
+    counts-are = h.counts_is ∙ rw t.counts-are (plus-assoc base t.a.counts (inner s start).made.counts);
     text_is = rw (z, t.text_is, part-is at start s inside.0 shape-within);
     inside = h.inside;
   }
 
 -- At the end the items are passed over.
-pub tally-end : {inner : Passer Piece} {kind : Kind} {s : List ℕ} {from count at : ℕ} {counts : Counts} {text k : ℕ} → Tallied inner kind s from count at counts text k → count ≤ k
-    → TallyIs s (record { next = at; counts = counts; text = text }) (pass_items pieces inner kind count s from no_items)
+pub tally-end : {inner : Passer Piece} {kind : Kind} {s : List ℕ} {from count at : ℕ} {base counts : Counts} {text k : ℕ} → Tallied inner kind s from count base at counts text k → count ≤ k
+    → TallyIs s base counts (record { next = at; text = text }) (pass_items pieces inner kind count s from no_items)
 tally-end {inner} {kind} {s} {count = count} {at = at} {k = k} t z =
     rw (t.goes ∙ items-end inner kind s at t.a k count z)
     (record { next_is = refl; counts_is = t.counts-are; text_is = t.text_is; inside = t.inside })
 
--- Where no shape stands, nothing is counted.
-pub none-counted : {s : List ℕ} {at : ℕ} {r : Counted} {v : Came Piece} → r ≡ nothing_counted at → v ≡ came at nothing → at ≤ length s → CountedIs s r v
-none-counted e h i = rw (e, h) (record { next_is = refl; counts_is = refl; inside = i })
+-- Where no shape stands, nothing is added.
+pub none-counted : {s : List ℕ} {base : Counts} {at : ℕ} {v : Came Piece} → v ≡ came at nothing → at ≤ length s → AddedIs s base base at v
+none-counted {base = base} e i = rw e (record { next_is = refl; counts_is = sym (plus-none base); inside = i })
+
+-- A shape of one byte adds its links, a node for each, and its own.
+pub short-plus : (base : Counts) {links : ℕ} {c : Counts} → many (1 + links) links 0 0 ≡ c → many (base.nodes + (1 + links)) (base.links + links) base.names base.text ≡ plus base c
+short-plus base e = rw (← e) (simp add-zero)
 
 -- the items of a list, of which each has one level less
 abbrev pub all_of : ℕ → List ℕ → Kind → Listing → Came Gathered
@@ -229,20 +240,22 @@ is-list left s at kind l h p z k e = record { has-shapes = p; passed = rw (e, li
 
 module _ {left : ℕ} {s : List ℕ} {at : ℕ} {kind : Kind} {l : Listing} (m : IsList left s at kind l) where
   -- Where a list adds few, its items do.
-  pub list-few : Few (pass_shape pieces left s at).made.counts → FewItems (all_of left s kind l).made
-  list-few few =
+  pub list-few : (base : Counts) → Few (plus base (pass_shape pieces left s at).made.counts) → FewItems base (all_of left s kind l).made
+  list-few base few =
       let f = rw m.passed at few in
       ((omega (arith, f.0), omega (arith, f.1), omega (arith, f.2), omega (arith, f.3)), omega (arith, f.3))
 
-  module _ {all : Tally} {own : Counts} (h : TallyIs s all (all_of left s kind l)) (o : own ≡ own_counts kind l.count all.text) where
-    -- Its counts are those of its items, and its own.
-    list_counts : plus all.counts own ≡ (pass_shape pieces left s at).made.counts
-    list_counts = rw (o, m.passed, h.counts_is, h.text_is, items-count (pass_shape pieces (left - 1)) kind s l.count l.from)
+  module _ {base after : Counts} {all : Tally} {own : Counts} (h : TallyIs s base after all (all_of left s kind l)) (o : own ≡ own_counts kind l.count all.text) where
+    -- What it adds is what its items add, and its own.
+    list_counts : plus after own ≡ plus base (pass_shape pieces left s at).made.counts
+    list_counts =
+        let a : Gathered = (all_of left s kind l).made in
+        rw (o, h.counts_is, h.text_is, m.passed, items-count (pass_shape pieces (left - 1)) kind s l.count l.from) (plus-assoc base a.counts (own_counts kind l.count a.text))
 
     -- So they are few, where the list adds few,
-    pub list-sum : Few (pass_shape pieces left s at).made.counts → Few (plus all.counts own)
+    pub list-sum : Few (plus base (pass_shape pieces left s at).made.counts) → Few (plus after own)
     list-sum few = subst (λ (c : Counts). Few c) (sym list_counts) few
 
-    -- and the list is counted.
-    pub list_counted : {r : Counts} → r ≡ plus all.counts own → CountedIs s (record { next = all.next; counts = r }) (pass_shape pieces left s at)
+    -- and the list is added.
+    pub list_counted : {r : Counts} → r ≡ plus after own → AddedIs s base r all.next (pass_shape pieces left s at)
     list_counted e = record { next_is = h.next_is ∙ rw m.passed; counts_is = e ∙ list_counts; inside = h.inside }

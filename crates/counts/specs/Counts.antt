@@ -1,10 +1,11 @@
 -- What the code counts, by places in the encoding s. No public contract of a call cites it.
 use Rattle.std.specs.Prelude.{ℕ, ◌≤◌, ◌<◌, ◌≡◌, List, length}
 use Rattle.steps.specs.Pass.{Came, pass_items, pass_shape}
+use Rattle.counts.specs.declared.Counts.{Counts}
 use Rattle.counts.specs.declared.Counted.{Counted}
 use Rattle.counts.specs.declared.Tally.{Tally}
 use Rattle.counts.specs.declared.items.Items.{Items}
-use Rattle.counts.specs.Pieces.{none, Few, Piece, Gathered, no_items, pieces}
+use Rattle.counts.specs.Pieces.{none, plus, Few, Piece, Gathered, no_items, pieces}
 
 -- the items of a list, of which each is a shape
 abbrev pub shapes_at : List ℕ → Items → Came Gathered
@@ -20,13 +21,19 @@ pub record CountedIs (s : List ℕ) (r : Counted) (v : Came Piece) : Type 0 wher
   pub counts_is : r.counts ≡ v.made.counts
   pub inside : r.next ≤ length s
 
+-- so many are there after a shape was added to those before it, which adds what the pass makes of it, and the place after it is inside
+pub record AddedIs (s : List ℕ) (base after : Counts) (next : ℕ) (v : Came Piece) : Type 0 where
+  pub next_is : next ≡ v.next
+  pub counts_is : after ≡ plus base v.made.counts
+  pub inside : next ≤ length s
+
 -- so of the items of a list
-pub record TallyIs (s : List ℕ) (r : Tally) (v : Came Gathered) : Type 0 where
+pub record TallyIs (s : List ℕ) (base after : Counts) (r : Tally) (v : Came Gathered) : Type 0 where
   pub next_is : r.next ≡ v.next
-  pub counts_is : r.counts ≡ v.made.counts
+  pub counts_is : after ≡ plus base v.made.counts
   pub text_is : r.text ≡ v.made.text
   pub inside : r.next ≤ length s
 
--- what the items of a list add is few
-abbrev pub FewItems : Gathered → Type 0
-FewItems a = Few a.counts × (a.text < 65536)
+-- what the items of a list add is few, where so many are there before the list
+abbrev pub FewItems : Counts → Gathered → Type 0
+FewItems base a = Few (plus base a.counts) × (a.text < 65536)

@@ -10,7 +10,7 @@ ghost use Rattle.payloads.specs.Payload.{shaped};
 ghost use Rattle.steps.specs.Steps.{first_at};
 ghost use Rattle.steps.specs.Pass.{pass_shape};
 ghost use Rattle.counts.specs.Pieces.{many, none, plus, Few, text_from, text_in, own_counts, short_piece, symbol_piece, pieces, inner};
-ghost use Rattle.counts.specs.Counts.{nothing_counted, shapes_at, CountedIs, TallyIs, FewItems};
+ghost use Rattle.counts.specs.Counts.{nothing_counted, shapes_at, CountedIs, AddedIs, TallyIs, FewItems};
 
 use items::Items;
 use payloads::first::{First, Kind, PACKED, PACKED_MAPS};
@@ -70,11 +70,10 @@ pub struct Counted {
     pub counts: Counts,
 }
 
-// What the items of a list add, how long their texts are, and the place after them.
+// How long the texts of a list's items are, and the place after the items.
 #[derive(Clone, Copy)]
 pub struct Tally {
     pub next: usize,
-    pub counts: Counts,
     pub text: usize,
 }
 
@@ -132,16 +131,24 @@ fn packed_counts(links: usize) -> Counts
     }
 }
 
-// What a shape of one byte adds: an Array and a Map of primitives have them as nodes.
+// How many links to primitives a shape of one byte has: an Array and a Map of primitives have those as nodes.
 #[tactic(auto, using(crate::proofs::Shorts::numbers))]
+fn short_links(b: u8) -> usize
+    ensures is { many (1 + result) result 0 0 ≡ (short_piece b).counts }
+    ensures few { result ≤ 2 }
+{
+    match b {
+        0..PACKED => 0,
+        PACKED..PACKED_MAPS => 1,
+        _ => 2,
+    }
+}
+
+// What a shape of one byte adds.
 pub fn short_counts(b: u8) -> Counts
     ensures { result ≡ (short_piece b).counts }
 {
-    match b {
-        0..PACKED => packed_counts(0),
-        PACKED..PACKED_MAPS => packed_counts(1),
-        _ => packed_counts(2),
-    }
+    packed_counts(short_links(b))
 }
 
 // What a Symbol adds, given its bytes.
@@ -181,24 +188,28 @@ pub fn count_plain(s: &[u8], at: usize, left: usize, kind: Kind) -> Counted
     }
 }
 
-// What the shape at a place adds.
-#[cycle(count_at_count_items)]
-pub fn count_at(s: &[u8], at: usize, left: usize) -> Counted
-    requires { (at ≤ length s.now) × (length s.now < 65536) × (left ≤ max_levels) × Few (pass_shape pieces left s.now at).made.counts }
-    ensures { CountedIs s.now result (pass_shape pieces left s.now at) }
+// Adds what the shape at a place adds. The place after the shape.
+#[cycle(add_at_add_items)]
+fn add_at(s: &[u8], at: usize, left: usize, counts: &mut Counts) -> usize
+    requires { (at ≤ length s.now) × (length s.now < 65536) × (left ≤ max_levels) × Few (plus counts.old (pass_shape pieces left s.now at).made.counts) }
+    ensures { AddedIs s.now counts.old counts.new result (pass_shape pieces left s.now at) }
 {
     match steps::first_at(s, at) {
-        First::Unassigned => nothing_at(at),
-        First::Short { .. } => Counted {
-            next: at + 1,
-            counts: short_counts(s[at]),
-        },
+        First::Unassigned => at,
+        First::Short { .. } => {
+            let links = short_links(s[at]);
+            counts.nodes += 1 + links;
+            counts.links += links;
+            at + 1
+        }
         First::Long { kind } => {
             if !kind.is_shaped() {
-                return count_plain(s, at, left, kind);
+                let part = count_plain(s, at, left, kind);
+                *counts = *counts + part.counts;
+                return part.next;
             }
             if left == 0 || s.len() - at < HEAD_SIZE {
-                return nothing_at(at);
+                return at;
             }
             let list = steps::list_at(s, at + HEAD_SIZE, kind);
             let items = Items {
@@ -207,36 +218,37 @@ pub fn count_at(s: &[u8], at: usize, left: usize) -> Counted
                 kind,
                 left: left - 1,
             };
-            let all = count_items(s, items);
-            Counted {
-                next: all.next,
-                counts: all.counts + own_counts(kind, items.count, all.text),
-            }
+            let all = add_items(s, items, counts);
+            *counts = *counts + own_counts(kind, items.count, all.text);
+            all.next
         }
     }
 }
 
-// What the items of a list add. The pair of levels left and items left falls, as the reader's does.
-#[cycle(count_at_count_items)]
-fn count_items(s: &[u8], items: Items) -> Tally
-    requires { (items.from ≤ length s.now) × (length s.now < 65536) × FewItems (shapes_at s.now items).made }
-    ensures { TallyIs s.now result (shapes_at s.now items) }
+// Adds what the items of a list add. The pair of levels left and items left falls, as the reader's does.
+#[cycle(add_at_add_items)]
+fn add_items(s: &[u8], items: Items, counts: &mut Counts) -> Tally
+    requires { (items.from ≤ length s.now) × (length s.now < 65536) × FewItems counts.old (shapes_at s.now items).made }
+    ensures { TallyIs s.now counts.old counts.new result (shapes_at s.now items) }
 {
     let mut at = items.from;
-    let mut counts = Counts::NONE;
     let mut text = 0;
     for _ in 0..items.count {
         let start = steps::past_name(s, at, items.kind);
         text += text_size(&s[at..start]);
-        let part = count_at(s, start, items.left);
-        counts = counts + part.counts;
-        at = part.next;
+        at = add_at(s, start, items.left, counts);
     }
-    Tally {
-        next: at,
-        counts,
-        text,
-    }
+    Tally { next: at, text }
+}
+
+// What the shape at a place adds.
+pub fn count_at(s: &[u8], at: usize, left: usize) -> Counted
+    requires { (at ≤ length s.now) × (length s.now < 65536) × (left ≤ max_levels) × Few (pass_shape pieces left s.now at).made.counts }
+    ensures { CountedIs s.now result (pass_shape pieces left s.now at) }
+{
+    let mut counts = Counts::NONE;
+    let next = add_at(s, at, left, &mut counts);
+    Counted { next, counts }
 }
 
 // What an item adds after its name: a Symbol's items have no shape.

@@ -50,3 +50,7 @@ pub record RunFed (items : Items) (s : List ℕ) (end at n due deepest : ℕ) (r
   pub same : (l : Level) (ls : List Level) (from stop count whole : ℕ) → length (l ∷ ls) ≡ n → count + (end - at) ≤ stop → count + (end - at) ≤ max_bytes
       → fed (run (l ∷ ls) (level from stop due items) (item_mode items) count whole deepest) (drop at s)
       ≡ fed (run (l ∷ ls) (level from stop r.due items) (item_mode items) (count + (r.i - at)) whole r.deepest) (drop r.i s)
+
+-- after items of one byte up to a place
+abbrev pub run_past : Taken.Run → ℕ → ℕ → Taken.Run
+run_past r i deepest = record { i = i; due = r.due - (i - r.i); deepest = deepest; fault = r.fault }

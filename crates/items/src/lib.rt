@@ -1,8 +1,8 @@
 // What lies whole in a part: its items are taken at once, by the whole reader's own walk. Only what a part's end cuts is read byte by byte.
 #![tactic(auto)]
 
-ghost use Rattle.std.specs.Prelude.{◌<◌, ◌≤◌, length};
-ghost use Rattle.items.specs.Fed.{ItemFed, RunFed, ShapeFed, WindowEnd};
+ghost use Rattle.std.specs.Prelude.{◌-◌, ◌<◌, ◌≡◌, ◌≤◌, length};
+ghost use Rattle.items.specs.Fed.{ItemFed, RunFed, ShapeFed, WindowEnd, run_past};
 ghost use Rattle.meaning.specs.Limits.{max_bytes, max_levels};
 ghost use Rattle.byte_steps.specs.declared.modes.Items.TheVariants.{Bare, Fields, Texts};
 
@@ -112,9 +112,25 @@ pub struct Run {
     pub fault: usize,
 }
 
+impl Run {
+    // After items of one byte up to a place.
+    fn past(self, i: usize, deepest: u16) -> Run
+        requires { (self.i ≤ i) × (i - self.i ≤ self.due) }
+        ensures { result ≡ run_past self i deepest }
+    {
+        Run {
+            i,
+            due: self.due - (i - self.i) as u16,
+            deepest,
+            ..self
+        }
+    }
+}
+
 // The shapes of one byte at the front of a list of shapes, each with another byte after it in the window. None has more than two levels, so where two
 // are left none is too deep, and the loop does not ask how deep each is. Nearer to the last level none is taken here.
-fn shorts_run(w: &[u8], n: u16, mut run: Run) -> Run
+// A turn keeps its place and the deepest alone, and `deep` stands first at `max`, which compiles to one move less.
+fn shorts_run(w: &[u8], n: u16, run: Run) -> Run
     requires { (0 < n) × (n ≤ max_levels) }
     ensures { RunFed Bare w.now (length w.now) run.i n run.due run.deepest result }
 {
@@ -122,15 +138,15 @@ fn shorts_run(w: &[u8], n: u16, mut run: Run) -> Run
         return run;
     }
     let stop = run.i + (run.due as usize).min(w.len() - run.i - 1);
+    let mut deepest = run.deepest;
     for i in run.i..stop {
         let First::Short { levels } = First::from(w[i]) else {
-            return run;
+            return run.past(i, deepest);
         };
-        run.due -= 1;
-        run.i += 1;
-        run.deepest = run.deepest.max(n + levels as u16);
+        let deep = n + levels as u16;
+        deepest = deep.max(deepest);
     }
-    run
+    run.past(stop, deepest)
 }
 
 // The items of a list from a place on that lie whole in a window, each with another after it there. Shapes of one byte at the front of a list of shapes

@@ -1,6 +1,7 @@
 -- Laws of faults and their numbers.
 --     fault-number     the fault of a fault's number is that fault
 --     fault-some       a fault has a number that is not 0
+--     fault-small      and is no more than the paper's last
 --     number-fault     the number of a number's fault is that number, of each number that a refusal carries
 -- Assumes nothing.
 use Prim.Native.Nat.{ℕ, ◌≤◌, ◌<◌}
@@ -76,3 +77,23 @@ fault-some MadeTooDeep = omega arith
 fault-some MadeTooLong = omega arith
 fault-some JoinedTooLarge = omega arith
 fault-some NoSuchPart = omega arith
+
+pub fault-small : (f : Fault) → number_of f ≤ no_such_part
+fault-small CutShort = omega arith
+fault-small NotAssigned = omega arith
+fault-small SizeWrong = omega arith
+fault-small NumberWrong = omega arith
+fault-small NotUtf8 = omega arith
+fault-small LongForm = omega arith
+fault-small TooDeep = omega arith
+fault-small InputTooLong = omega arith
+fault-small SectionBroken = omega arith
+fault-small NodeBroken = omega arith
+fault-small NameBroken = omega arith
+fault-small BufferShort = omega arith
+fault-small SheetBroken = omega arith
+fault-small SecondBroken = omega arith
+fault-small MadeTooDeep = omega arith
+fault-small MadeTooLong = omega arith
+fault-small JoinedTooLarge = omega arith
+fault-small NoSuchPart = omega arith

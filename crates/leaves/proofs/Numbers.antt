@@ -11,30 +11,30 @@ use lib.ListN.{length, get_or}
 use lib.Seq.{slice}
 use lib.Dec.{ltb, leb, eqb}
 use Rattle.meaning.specs.Rules.{◌⇒◌∣◌}
+use Rattle.meaning.specs.Refusals.{unfinished, over_two_bytes, not_shortest}
 use Rattle.meaning.specs.Reading.{Reading, got, bad, read_count, second_byte}
 use Rattle.meaning.proofs.Rules.{facts, both}
 use Rattle.meaning.proofs.Window.{window-none, window-some, window-place, place-some}
 use Rattle.leaves.proofs.Faults.{fault-number}
 use Rattle.leaves.specs.Leb.{leb_of, leb_said, leb_at}
 use Rattle.std.specs.Prelude.{Result, Ok, Err}
-use Rattle.leaves.specs.Faults.{number_of, fault_at}
+use Rattle.leaves.specs.Faults.{number_of, fault_of, fault_at, refusal}
 use Rattle.leaves.specs.declared.refusals.Fault.{Fault}
-use Rattle.leaves.specs.declared.refusals.Fault.TheVariants.{NumberWrong}
 use Rattle.leaves.specs.declared.refusals.Refusal.{Refusal}
 use Rattle.leaves.specs.declared.Leb.{Leb}
 
 -- the number at a place whose first byte is b and has another after it, by index
 abbrev second_step : List ℕ → ℕ → ℕ → ℕ → Result Leb Refusal
 second_step s e at b =
-    leb e (at + 1) ⇒ Err (fault_at NumberWrong at) ∣ λ _.
-    leb 128 (get_or s (at + 1) 0) ⇒ Err (fault_at NumberWrong at) ∣ λ _.
-    eqb (get_or s (at + 1) 0) 0 ⇒ Err (fault_at NumberWrong at) ∣ λ _.
+    leb e (at + 1) ⇒ Err (refusal unfinished at) ∣ λ _.
+    leb 128 (get_or s (at + 1) 0) ⇒ Err (refusal over_two_bytes at) ∣ λ _.
+    eqb (get_or s (at + 1) 0) 0 ⇒ Err (refusal not_shortest at) ∣ λ _.
     Ok (leb_of (b % 128 + 128 * get_or s (at + 1) 0) (at + 2))
 
 -- the number at a place by index
 unfoldable pub steps : List ℕ → ℕ → ℕ → Result Leb Refusal
 steps s e at =
-    leb e at ⇒ Err (fault_at NumberWrong at) ∣ λ _.
+    leb e at ⇒ Err (refusal unfinished at) ∣ λ _.
     ltb (get_or s at 0) 128 ⇒ Ok (leb_of (get_or s at 0) (at + 1)) ∣ λ _.
     second_step s e at (get_or s at 0)
 
@@ -50,12 +50,12 @@ module _ (s : List ℕ) (e at : ℕ) (k : e ≤ length s) (R : Result Leb Refusa
       c = get_or s (at + 1) 0
 
       go : (t : Bool) → leb e (at + 1) ≡ t → R (second_step s e at b) (second_byte at b (slice (at + 1) e s))
-      go true p = rw (p, window-none s (at + 1) e (omega (arith, facts))) (faulty NumberWrong)
+      go true p = rw (p, window-none s (at + 1) e (omega (arith, facts))) (faulty (fault_of unfinished))
       go false p =
           let z : at + 1 + 1 ≡ at + 2 = omega arith in
           rw (p, window-some s (at + 1) e (omega (arith, facts)) k, z)
-          (both R (leb 128 c) _ _ _ _ (λ q. faulty NumberWrong) λ q.
-          both R (eqb c 0) _ _ _ _ (λ q. faulty NumberWrong) λ q.
+          (both R (leb 128 c) _ _ _ _ (λ q. faulty (fault_of over_two_bytes)) λ q.
+          both R (eqb c 0) _ _ _ _ (λ q. faulty (fault_of not_shortest)) λ q.
           sound _ (at + 2) (omega arith) (omega (arith, facts)))
 
   -- It holds from the first byte on.
@@ -66,7 +66,7 @@ module _ (s : List ℕ) (e at : ℕ) (k : e ≤ length s) (R : Result Leb Refusa
       go : (t : Bool) → leb e at ≡ t → R (steps s e at) (read_count e (slice at e s))
       go true p =
           let z : at ≡ e = omega (arith, facts) in
-          rw (p, window-none s at e (omega (arith, facts)), ← z) (faulty NumberWrong)
+          rw (p, window-none s at e (omega (arith, facts)), ← z) (faulty (fault_of unfinished))
       go false p =
           let l : at < e = omega (arith, facts) in
           rw (p, window-some s at e l k, place-some s at e l k)

@@ -39,22 +39,42 @@ pub fn leb128(w: &[u8], at: usize) -> Result<Leb, Refusal>
     ensures is { result ≡ leb_at w.now (length w.now) at }
     ensures inside { LebInside (length w.now) at result }
 {
-    if at < w.len() && w[at] < 128 {
-        Ok(Leb {
-            value: usize::from(w[at]),
-            next: at + 1,
-        })
-    } else if at < w.len() && at + 1 < w.len() && matches!(w[at + 1], 1..128) {
-        Ok(Leb {
-            value: usize::from(w[at] % 128) + 128 * usize::from(w[at + 1]),
-            next: at + 2,
-        })
-    } else {
-        Err(Refusal {
-            fault: Fault::NumberWrong,
+    if w.len() <= at {
+        return Err(Refusal {
+            fault: Fault::UNFINISHED,
             place: at,
-        })
+        });
     }
+    let low = w[at];
+    if low < 128 {
+        return Ok(Leb {
+            value: usize::from(low),
+            next: at + 1,
+        });
+    }
+    if w.len() <= at + 1 {
+        return Err(Refusal {
+            fault: Fault::UNFINISHED,
+            place: at,
+        });
+    }
+    let high = w[at + 1];
+    if 128 <= high {
+        return Err(Refusal {
+            fault: Fault::OVER_TWO_BYTES,
+            place: at,
+        });
+    }
+    if high == 0 {
+        return Err(Refusal {
+            fault: Fault::NOT_SHORTEST,
+            place: at,
+        });
+    }
+    Ok(Leb {
+        value: usize::from(low % 128) + 128 * usize::from(high),
+        next: at + 2,
+    })
 }
 
 // The size of the character at a place whose first byte asks for 1 to 3 more, the first of them from low to high; 0 where they do not follow.

@@ -1,5 +1,5 @@
 // What bytes are refused for, and where.
-ghost use Rattle.std.specs.Prelude.{◌≡◌};
+ghost use Rattle.std.specs.Prelude.{ℕ, ◌≡◌};
 ghost use Rattle.leaves.specs.Faults.{number_of};
 
 // The faults, each with the number that a refusal carries, which stands here and nowhere else in the code (01-scope.md, "Numbers that a refusal
@@ -45,6 +45,18 @@ pub enum Fault {
 }
 
 impl Fault {
+    // Three faults of a LEB128 number share one case today, and so the number 4. The code says each under its own name, so that a request that tells
+    // them apart gives each a case here and leaves the rest of the code alone.
+
+    // A LEB128 number is not finished.
+    pub const UNFINISHED: Fault = Fault::NumberWrong;
+
+    // A LEB128 number has over two bytes.
+    pub const OVER_TWO_BYTES: Fault = Fault::NumberWrong;
+
+    // A LEB128 number is not the shortest.
+    pub const NOT_SHORTEST: Fault = Fault::NumberWrong;
+
     // The number that a refusal carries.
     pub fn number(self) -> usize
         ensures { result ≡ number_of self }
@@ -58,4 +70,32 @@ impl Fault {
 pub struct Refusal {
     pub fault: Fault,
     pub place: usize,
+}
+
+// What a call refuses with: the number that it carries, and a place.
+pub trait Refuses: Copy {
+    ghost number_told: { Self → ℕ };
+
+    ghost place_told: { Self → ℕ };
+
+    fn number(self) -> usize
+        ensures { result ≡ number_told self };
+
+    fn place(self) -> usize
+        ensures { result ≡ place_told self };
+}
+
+// A fault's number, and its place.
+impl Refuses for Refusal {
+    ghost number_told = { λ r. number_of r.fault };
+
+    ghost place_told = { λ r. r.place };
+
+    fn number(self) -> usize {
+        self.fault.number()
+    }
+
+    fn place(self) -> usize {
+        self.place
+    }
 }

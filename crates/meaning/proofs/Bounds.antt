@@ -1,7 +1,12 @@
 -- What the answers of fill and join carry is small, for any input.
---     Small                      a refusal has one of the paper's numbers; its place, and the length of an answer, are no more than the longest table has bytes
---     fill-small, join-small     so for any input
---     onto-small, room_small, made-small     what is to be shown of each step
+--     Small                      a refusal's number is no more than the paper's last; its place, and the length of an answer, are no more than the longest
+--                                table has bytes
+--     Told                       besides, a refusal's number is not 0: it is one of the paper's
+--     told-small                 what is told is small
+--     fill-told, join-told       so for any input
+--     fill-small, join-small     so it is small
+--     onto-told, room-told, made-told        what is to be shown of each step
+--     onto-small, room_small, made-small     the same where only that it is small is to be shown
 -- Assumes nothing.
 use Prim.Native.Nat.{ℕ, suc, ◌+◌, ◌*◌, ◌≤◌, ◌<◌}
 use mathlib.Core.Path.{◌≡◌, refl}
@@ -11,7 +16,7 @@ use lib.Dec.{ltb, eqb}
 use lib.ListN.{length, length-append}
 use borrow.Author.Tests.{ltb-false}
 use Rattle.meaning.specs.Limits.{max_bytes, max_levels, max_entries, max_encodings}
-use Rattle.meaning.specs.Refusals.{sheet_broken, second_broken, no_such_part}
+use Rattle.meaning.specs.Refusals.{sheet_broken, second_broken, made_too_deep, made_too_long, no_such_part}
 use Rattle.meaning.specs.Shape.{Shape, depth}
 use Rattle.meaning.specs.Encode.{encode}
 use Rattle.meaning.specs.Within.{Bytes}
@@ -35,36 +40,63 @@ farthest = longest_table
 -- an answer that carries small numbers
 abbrev pub Small : Answer → Type 0
 Small (answered w) = length w ≤ farthest
-Small (refused number place) = (0 < number) × (number ≤ no_such_part) × (place ≤ farthest)
+Small (refused number place) = (number ≤ no_such_part) × (place ≤ farthest)
 
--- What was read is handed on; a refusal of reading has to be small.
-pub onto-small : {A : Type 0} (r : Reading A) (f : A → Answer) → ((a : A) (w : List ℕ) → r ≡ got a w → Small (f a)) → ((n p : ℕ) → r ≡ bad n p → Small (refused n p)) → Small (onto r f)
+-- an answer that carries small numbers, and a refusal's is not 0
+abbrev pub Told : Answer → Type 0
+Told (answered w) = length w ≤ farthest
+Told (refused number place) = (0 < number) × (number ≤ no_such_part) × (place ≤ farthest)
+
+-- What is told is small.
+pub told-small : (a : Answer) → Told a → Small a
+told-small (answered w) h = h
+told-small (refused number place) h = (h.1, h.2)
+
+-- What was read is handed on: P holds of it that holds of what follows, and of a refusal of reading.
+onto-each : (P : Answer → Type 0) {A : Type 0} (r : Reading A) (f : A → Answer) → ((a : A) (w : List ℕ) → r ≡ got a w → P (f a)) → ((n p : ℕ) → r ≡ bad n p → P (refused n p)) → P (onto r f)
 unfolding onto
-onto-small (got a w) f h k = h a w refl
-onto-small (bad n p) f h k = k n p refl
+onto-each P (got a w) f h k = h a w refl
+onto-each P (bad n p) f h k = k n p refl
 
--- An answer in its room is small, where it is short.
-pub room_small : (room : ℕ) (w : List ℕ) → length w ≤ farthest → Small (in_room room w)
+-- So a refusal of reading has to be told, or small.
+pub onto-told : {A : Type 0} (r : Reading A) (f : A → Answer) → ((a : A) (w : List ℕ) → r ≡ got a w → Told (f a)) → ((n p : ℕ) → r ≡ bad n p → Told (refused n p)) → Told (onto r f)
+onto-told = onto-each Told
+
+pub onto-small : {A : Type 0} (r : Reading A) (f : A → Answer) → ((a : A) (w : List ℕ) → r ≡ got a w → Small (f a)) → ((n p : ℕ) → r ≡ bad n p → Small (refused n p)) → Small (onto r f)
+onto-small = onto-each Small
+
+-- An answer in its room is told, where it is short, and small.
+pub room-told : (room : ℕ) (w : List ℕ) → length w ≤ farthest → Told (in_room room w)
 unfolding in_room
-room_small room w h = rule Small (ltb room (length w)) _ _ (λ _. (omega arith, omega arith, omega arith)) (λ _. h)
+room-told room w h = rule Told (ltb room (length w)) _ _ (λ _. (omega arith, omega arith, omega arith)) (λ _. h)
 
--- A made shape is refused at a small place, or is short.
-pub made-small : (p : ℕ) (s : Shape) (a : Answer) → p ≤ farthest → (length (encode s) ≤ max_bytes → Small a) → Small (made p s a)
+pub room_small : (room : ℕ) (w : List ℕ) → length w ≤ farthest → Small (in_room room w)
+room_small room w h = told-small _ (room-told room w h)
+
+-- A made shape is refused at p, or is short.
+made-each : (P : Answer → Type 0) (p : ℕ) (s : Shape) (a : Answer) → P (refused made_too_deep p) → P (refused made_too_long p) → (length (encode s) ≤ max_bytes → P a) → P (made p s a)
 unfolding made
-made-small p s a h k =
-    rule Small (ltb max_levels (depth s)) _ _ (λ _. (omega arith, omega arith, h)) λ _.
-    rule Small (ltb max_bytes (length (encode s))) _ _ (λ _. (omega arith, omega arith, h)) λ q.
-    k (ltb-false _ _ q)
+made-each P p s a d l k = rule P (ltb max_levels (depth s)) _ _ (λ _. d) λ _. rule P (ltb max_bytes (length (encode s))) _ _ (λ _. l) λ q. k (ltb-false _ _ q)
 
--- Whatever bytes come, and whatever the room: what a fill answers is small.
-pub fill-small : (template sheet : List ℕ) (room : ℕ) → Small (fill_answer template sheet room)
+-- So it is told, and small, at a small place.
+pub made-told : (p : ℕ) (s : Shape) (a : Answer) → p ≤ farthest → (length (encode s) ≤ max_bytes → Told a) → Told (made p s a)
+made-told p s a h = made-each Told p s a (omega arith, omega arith, h) (omega arith, omega arith, h)
+
+pub made-small : (p : ℕ) (s : Shape) (a : Answer) → p ≤ farthest → (length (encode s) ≤ max_bytes → Small a) → Small (made p s a)
+made-small p s a h = made-each Small p s a (omega arith, h) (omega arith, h)
+
+-- Whatever bytes come, and whatever the room: what a fill answers is told, and small.
+pub fill-told : (template sheet : List ℕ) (room : ℕ) → Told (fill_answer template sheet room)
 unfolding fill_answer
-fill-small template sheet room =
-    onto-small (reading template) _
-    (λ t w p. onto-small (read_sheet sheet_broken sheet) _
-    (λ σ v q. made-small 0 (fill σ t) _ (omega arith) (λ h. room_small room _ (omega arith)))
+fill-told template sheet room =
+    onto-told (reading template) _
+    (λ t w p. onto-told (read_sheet sheet_broken sheet) _
+    (λ σ v q. made-told 0 (fill σ t) _ (omega arith) (λ h. room-told room _ (omega arith)))
     (λ n p q. let f = sheet-refusal sheet_broken sheet n p q in (omega (arith, f.0), omega (arith, f.0), omega (arith, f.1))))
     (λ n p q. let f = refusal-small template n p q in (omega (arith, f.some), omega arith, omega arith))
+
+pub fill-small : (template sheet : List ℕ) (room : ℕ) → Small (fill_answer template sheet room)
+fill-small template sheet room = told-small _ (fill-told template sheet room)
 
 -- With an item put in, a list has one item more at most.
 put-length : {A : Type 0} (d : Numbered A) (es : List (Numbered A)) → length (put d es) ≤ suc (length es)
@@ -82,29 +114,32 @@ over-length [] τ = omega arith
 over-length (d ∷ ds) τ = omega (arith, put-length d (over ds τ), over-length ds τ)
 
 -- Made shapes are refused at the numbers of their blanks, or are short together.
-all_small : (σ : Sheet) (a : Answer) → All ProperEntry σ → (length (encodings σ) ≤ max_bytes * length σ → Small a) → Small (all_made σ a)
+all-told : (σ : Sheet) (a : Answer) → All ProperEntry σ → (length (encodings σ) ≤ max_bytes * length σ → Told a) → Told (all_made σ a)
 unfolding all_made encodings All
-all_small [] a p k = k (omega arith)
-all_small (e ∷ es) a p k =
-    made-small e.number e.item _ (omega (arith, p.0.0)) λ h.
-    all_small es a p.1 λ l.
+all-told [] a p k = k (omega arith)
+all-told (e ∷ es) a p k =
+    made-told e.number e.item _ (omega (arith, p.0.0)) λ h.
+    all-told es a p.1 λ l.
     k (rw length-append (omega arith))
 
 -- So is what a joining answers.
-pub join-small : (first second : List ℕ) (room : ℕ) → Bytes first → Bytes second → Small (join_answer first second room)
+pub join-told : (first second : List ℕ) (room : ℕ) → Bytes first → Bytes second → Told (join_answer first second room)
 unfolding join_answer made_sheet
-join-small first second room b c =
-    onto-small (read_sheet sheet_broken first) _
-    (λ σ w p. onto-small (read_sheet second_broken second) _
+join-told first second room b c =
+    onto-told (read_sheet sheet_broken first) _
+    (λ σ w p. onto-told (read_sheet second_broken second) _
     (λ τ v q. joined σ τ (sheet-read sheet_broken first σ w b p).1 (sheet-read second_broken second τ v c q).1)
     (λ n p q. let f = sheet-refusal second_broken second n p q in (omega (arith, f.0), omega (arith, f.0), omega (arith, f.1))))
     (λ n p q. let f = sheet-refusal sheet_broken first n p q in (omega (arith, f.0), omega (arith, f.0), omega (arith, f.1)))
   where
-    joined : (σ τ : Sheet) → SheetWithin σ → SheetWithin τ → Small (made_sheet room (join σ τ))
+    joined : (σ τ : Sheet) → SheetWithin σ → SheetWithin τ → Told (made_sheet room (join σ τ))
     joined σ τ h k =
         let n = over-length (each (fill τ) σ) τ in
-        rule Small (ltb max_entries (length (join σ τ))) _ _ (λ _. (omega arith, omega arith, omega (arith, each-length (fill τ) σ, h.few, k.few))) λ p.
-        all_small (join σ τ) _ (join-proper σ τ (proper-entries σ h) (proper-entries τ k)) λ l.
+        rule Told (ltb max_entries (length (join σ τ))) _ _ (λ _. (omega arith, omega arith, omega (arith, each-length (fill τ) σ, h.few, k.few))) λ p.
+        all-told (join σ τ) _ (join-proper σ τ (proper-entries σ h) (proper-entries τ k)) λ l.
         let m = ltb-false max_entries (length (join σ τ)) p in
-        rule Small (ltb max_encodings (length (encodings (join σ τ)))) _ _ (λ _. (omega arith, omega arith, omega arith)) λ q.
-        room_small room _ (omega (arith, sheet-length (join σ τ), ltb-false max_encodings (length (encodings (join σ τ))) q))
+        rule Told (ltb max_encodings (length (encodings (join σ τ)))) _ _ (λ _. (omega arith, omega arith, omega arith)) λ q.
+        room-told room _ (omega (arith, sheet-length (join σ τ), ltb-false max_encodings (length (encodings (join σ τ))) q))
+
+pub join-small : (first second : List ℕ) (room : ℕ) → Bytes first → Bytes second → Small (join_answer first second room)
+join-small first second room b c = told-small _ (join-told first second room b c)

@@ -5,7 +5,8 @@
 --     write-short, table-short           they refuse with 12 then, where it has not
 --     write-fits, table_fits             an answer is no longer than the lent buffer
 --     write-needs, table-needs           the length that 12 carries is needed, and enough
---     write-small, table-small           what they answer is small
+--     write-told, table-told             what they answer is told
+--     write-small, table-small           so it is small
 --     table-write                        what the way back made of bytes, the writer makes into those bytes
 --     write-table, same-meaning          what the writer made, the way back makes into a table, which means the same
 -- Assumes nothing.
@@ -29,7 +30,7 @@ use Rattle.meaning.proofs.TableBytes.{read_table_lem, table-read, table-refusal}
 use Rattle.meaning.proofs.TableShape.{table-proper}
 use Rattle.meaning.proofs.TableOf.{table-shape}
 use Rattle.meaning.proofs.TableSize.{made-length, made-within}
-use Rattle.meaning.proofs.Bounds.{Small, onto-small, room_small, made-small}
+use Rattle.meaning.proofs.Bounds.{Small, Told, told-small, onto-told, room-told, made-told}
 
 -- What a table within the limits means is proper.
 pub root-proper : (T : Table) → TableWithin T → Proper (table_shape T)
@@ -93,13 +94,16 @@ write-needs table room n h =
       answers = λ r e. rw p (made-fits 0 (table_shape T) _ d l ∙ room-enough r _ (rw k.0 e));
     }
 
--- Whatever bytes come, and whatever the room: what a writing answers is small.
-pub write-small : (table : List ℕ) (room : ℕ) → Small (write_answer table room)
+-- Whatever bytes come, and whatever the room: what a writing answers is told, and small.
+pub write-told : (table : List ℕ) (room : ℕ) → Told (write_answer table room)
 unfolding write_answer
-write-small table room =
-    onto-small (read_table table) _
-    (λ T w p. made-small 0 (table_shape T) _ (omega arith) (λ h. room_small room _ (omega arith)))
+write-told table room =
+    onto-told (read_table table) _
+    (λ T w p. made-told 0 (table_shape T) _ (omega arith) (λ h. room-told room _ (omega arith)))
     (λ n p q. let f = table-refusal table n p q in (omega (arith, f.low), omega (arith, f.high), omega (arith, f.inside)))
+
+pub write-small : (table : List ℕ) (room : ℕ) → Small (write_answer table room)
+write-small table room = told-small _ (write-told table room)
 
 -- a way back that is answered: the input is the bytes of a shape within the limits, and the answer is the bytes of its table
 pub record Tabled (bytes w : List ℕ) : Type 0 where
@@ -147,13 +151,16 @@ table-needs bytes room n h =
       answers = λ r e. rw p (room-enough r _ (rw k.0 e));
     }
 
--- What a way back answers is small.
-pub table-small : (bytes : List ℕ) (room : ℕ) → Bytes bytes → Small (table_answer bytes room)
+-- What a way back answers is told, and small.
+pub table-told : (bytes : List ℕ) (room : ℕ) → Bytes bytes → Told (table_answer bytes room)
 unfolding table_answer
-table-small bytes room b =
-    onto-small (reading bytes) _
-    (λ s w p. room_small room _ (omega (arith, made-length s (encode-reading bytes s w b p).1)))
+table-told bytes room b =
+    onto-told (reading bytes) _
+    (λ s w p. room-told room _ (omega (arith, made-length s (encode-reading bytes s w b p).1)))
     (λ n p q. let f = refusal-small bytes n p q in (omega (arith, f.some), omega (arith, f.known), omega (arith, f.inside)))
+
+pub table-small : (bytes : List ℕ) (room : ℕ) → Bytes bytes → Small (table_answer bytes room)
+table-small bytes room b = told-small _ (table-told bytes room b)
 
 -- What the way back makes of bytes means what they are: the writer makes those bytes of it.
 pub table-write : {bytes w : List ℕ} → Tabled bytes w → Wrote w bytes

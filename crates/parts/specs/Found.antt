@@ -24,7 +24,7 @@ abbrev pub child_from : List ℕ → ℕ → FoundChild
 child_from s start = Part start (past_shape s start - start)
 
 abbrev pub name_by : Result Leb Refusal → Result FoundName Refusal
-name_by (Err r) = Err r
+name_by (Err r) = Err (refusal no_such_part 0)
 name_by (Ok size) = Ok (name_of size.next size.value)
 
 unfoldable pub name_from : List ℕ → ℕ → Result FoundName Refusal

@@ -48,12 +48,14 @@ fn child_from(s: &[u8], start: usize) -> FoundChild
     }
 }
 
-// The name whose length stands at a place.
+// The name whose length stands at a place. No accepted encoding lacks that length; where it is missing, there is no name.
 #[tactic(auto, unfolding(crate::specs::Found::name_from))]
 fn name_from(s: &[u8], at: usize) -> Result<FoundName, Refusal>
     ensures { result ≡ name_from s.now at }
 {
-    let size = leaves::leb128(s, at)?;
+    let Ok(size) = leaves::leb128(s, at) else {
+        return Err(no_such_part(0));
+    };
     Ok(FoundName {
         place: size.next,
         length: size.value,

@@ -15,7 +15,7 @@ ghost use Rattle.leaves.specs.Faults.{number_of};
 
 use byte_steps::modes::{BYTES, LEVELS, Mode};
 use leaves::limits::MAX_LEVELS;
-use leaves::refusals::Fault;
+use leaves::refusals::{Fault, Refuses};
 use reader::Accepted;
 use states::{BARE, Entry, HEAD, LETTERS, NO_ENTRY, State, Word};
 use turns::moves::sized;
@@ -53,6 +53,21 @@ pub fn start() -> State
 pub struct Faulty {
     pub number: u16,
     pub place: u16,
+}
+
+// The number and the place that it holds.
+impl Refuses for Faulty {
+    ghost number_told = { λ f. f.number };
+
+    ghost place_told = { λ f. f.place };
+
+    fn number(self) -> usize {
+        self.number as usize
+    }
+
+    fn place(self) -> usize {
+        self.place as usize
+    }
 }
 
 // The answer, and the state that repeats it.

@@ -21,8 +21,8 @@ use Rattle.meaning.specs.Reading.{reading}
 use Rattle.meaning.specs.SheetReading.{read_sheet}
 use Rattle.meaning.specs.Answers.{in_room, fill_answer, join_answer, write_answer, table_answer}
 use Rattle.meaning.proofs.Answers.{room-enough, room-lacks}
-use Rattle.meaning.proofs.Bounds.{fill-small, join-small}
-use Rattle.meaning.proofs.TableAnswers.{write-small, table-small}
+use Rattle.meaning.proofs.Bounds.{fill-told, join-told}
+use Rattle.meaning.proofs.TableAnswers.{write-told, table-told}
 use Rattle.std.specs.Prelude.{Ok, Err}
 use Rattle.leaves.proofs.Faults.{fault-some}
 use Rattle.buffers.specs.Said.{made_said}
@@ -35,7 +35,7 @@ use Rattle.editor.specs.Records.{records_answer, records_outcome}
 use Rattle.answers.specs.declared.Answer.{Answer}
 use Rattle.answers.specs.Answers.{refused, said_put, accepted_put, child_put, name_put, sound_put, written_put}
 use Rattle.board.proofs.Plain.{Parameters}
-use Rattle.board.proofs.Small.{records-small}
+use Rattle.board.proofs.Small.{records-told}
 use Rattle.answers.proofs.Small.{exported, exported-child, exported-name, exported-sheet, exported-made}
 use Rattle.promises.specs.Told.{Answered, wrote, Makes}
 use Rattle.promises.proofs.Calls.{Judged, ChildSaid, NameSaid, Checked, Made, Lent, Buffer, One, Two, Three, OnBytes, OnPart, Into, IntoOfTwo, IntoOfRecords, Read, ChildOf, NameOf, Check, Fill, Join, Write, WriteRecords, Tabled, BoardRead, BoardChild, BoardName, BoardSheet, BoardFill, BoardJoin, BoardWrite, BoardRecords, BoardTable}
@@ -92,13 +92,13 @@ module _ {r : Answer} where
 
   module _ {before after : List ℕ} where
     pub fill-below : {template sheet : List ℕ} → BoardFill template sheet before r after → Below made_put (λ m. Fill template sheet before m after) r
-    fill-below c = record { m = _; run = two-as c (refl, c.allowed.1); is = c.allowed.0 ∙ sym (exported-made _ (fill-small _ _ _)).is }
+    fill-below c = record { m = _; run = two-as c (refl, c.allowed.1); is = c.allowed.0 ∙ sym (exported-made _ (fill-told _ _ _)).is }
 
     pub join-below : {first second : List ℕ} → BoardJoin first second before r after → Below made_put (λ m. Join first second before m after) r
-    join-below c = record { m = _; run = two-as c (refl, c.allowed.1); is = c.allowed.0 ∙ sym (exported-made _ (join-small _ _ _ (rw c.first-lent c.small.0) (rw c.second-lent c.small.1))).is }
+    join-below c = record { m = _; run = two-as c (refl, c.allowed.1); is = c.allowed.0 ∙ sym (exported-made _ (join-told _ _ _ (rw c.first-lent c.small.0) (rw c.second-lent c.small.1))).is }
 
     pub write-below : {table : List ℕ} → BoardWrite table before r after → Below made_put (λ m. Write table before m after) r
-    write-below c = record { m = _; run = into-as c (refl, c.allowed.1); is = c.allowed.0 ∙ sym (exported-made _ (write-small _ _)).is }
+    write-below c = record { m = _; run = into-as c (refl, c.allowed.1); is = c.allowed.0 ∙ sym (exported-made _ (write-told _ _)).is }
 
     pub records-below : {nodes : List Node} {rest : List ℕ} → BoardRecords nodes rest before r after → Below made_put (λ m. WriteRecords nodes rest before m after) r
     unfolding records_outcome
@@ -107,11 +107,11 @@ module _ {r : Answer} where
         record {
           m = made_said w;
           run = records-as c (ap (λ (o : Answer × List ℕ). (made_said w, o.1)) c.allowed);
-          is = ap (λ (o : Answer × List ℕ). o.0) c.allowed ∙ sym (exported-made w (records-small _ _ _)).is;
+          is = ap (λ (o : Answer × List ℕ). o.0) c.allowed ∙ sym (exported-made w (records-told _ _ _)).is;
         }
 
     pub table_below : {bytes : List ℕ} → BoardTable bytes before r after → Below made_put (λ m. Tabled bytes before m after) r
-    table_below c = record { m = _; run = into-as c (refl, c.allowed.1); is = c.allowed.0 ∙ sym (exported-made _ (table-small _ _ (rw c.lent c.small))).is }
+    table_below c = record { m = _; run = into-as c (refl, c.allowed.1); is = c.allowed.0 ∙ sym (exported-made _ (table-told _ _ (rw c.lent c.small))).is }
 
 -- The fields of an answer that is known.
 pub numbered : {r a : Answer} → r ≡ a → r.number ≡ a.number

@@ -28,8 +28,8 @@ use Rattle.meaning.specs.TableReading.{NodesFit}
 use Rattle.meaning.specs.Answers.{fill_answer, join_answer, write_answer, table_answer}
 use Rattle.meaning.proofs.Join.{join-rising}
 use Rattle.meaning.proofs.SheetBytes.{sheet-read}
-use Rattle.meaning.proofs.Bounds.{fill-small, join-small}
-use Rattle.meaning.proofs.TableAnswers.{write-small, table-small}
+use Rattle.meaning.proofs.Bounds.{fill-told, join-told}
+use Rattle.meaning.proofs.TableAnswers.{write-told, table-told}
 use Rattle.std.specs.Prelude.{Result, Ok, Err}
 use Rattle.leaves.specs.declared.refusals.Refusal.{Refusal}
 use Rattle.leaves.proofs.Faults.{fault-some}
@@ -40,7 +40,7 @@ use Rattle.editor.specs.Records.{meant}
 use Rattle.answers.specs.declared.Answer.{Answer}
 use Rattle.answers.specs.Answers.{Fits, said_put, accepted_put, child_put, name_put, sound_put, written_put}
 use Rattle.answers.proofs.Small.{Given, exported, exported-child, exported-name, exported-sheet, exported-made}
-use Rattle.board.proofs.Small.{records-small}
+use Rattle.board.proofs.Small.{records-told}
 use Rattle.promises.specs.Order.{read_numbers, PartRefuses, FillRefuses, JoinRefuses, WriteRefuses, RecordsRefuses, TableRefuses, Refused}
 use Rattle.promises.specs.Told.{FrontOnly, Tells, Keeps}
 use Rattle.promises.proofs.Calls.{Made, Lent, Buffer, Two, Three, Into, IntoOfTwo, BoardRead, BoardChild, BoardName, BoardSheet, BoardFill, BoardJoin, BoardWrite, BoardRecords, BoardTable}
@@ -93,24 +93,24 @@ into-run : {Post : Lfts 2 → Two Lent Buffer → Answer → Two Lent Buffer →
 into-run p h = record { κs = some2; a = (_, (_, tt)); s = (_, (_, tt)); allowed = p; lent = refl; buffer_lent = refl; buffer-left = refl; small = h }
 
 pub board-fill-runs : (template sheet before : List ℕ) → Bytes template → Bytes sheet → (r : Answer) × (after : List ℕ) × BoardFill template sheet before r after × Fits r
-board-fill-runs template sheet before h k = (_, _, two_run (refl, refl) (h, k), given-fits (exported-made (fill_answer template sheet (length before)) (fill-small _ _ _)))
+board-fill-runs template sheet before h k = (_, _, two_run (refl, refl) (h, k), given-fits (exported-made (fill_answer template sheet (length before)) (fill-told _ _ _)))
 
 pub board-join-runs : (first second before : List ℕ) → Bytes first → Bytes second → (r : Answer) × (after : List ℕ) × BoardJoin first second before r after × Fits r
-board-join-runs first second before h k = (_, _, two_run (refl, refl) (h, k), given-fits (exported-made (join_answer first second (length before)) (join-small _ _ _ h k)))
+board-join-runs first second before h k = (_, _, two_run (refl, refl) (h, k), given-fits (exported-made (join_answer first second (length before)) (join-told _ _ _ h k)))
 
 pub board-write-runs : (table before : List ℕ) → Bytes table → (r : Answer) × (after : List ℕ) × BoardWrite table before r after × Fits r
-board-write-runs table before h = (_, _, into-run (refl, refl) h, given-fits (exported-made (write_answer table (length before)) (write-small _ _)))
+board-write-runs table before h = (_, _, into-run (refl, refl) h, given-fits (exported-made (write_answer table (length before)) (write-told _ _)))
 
 pub board-records-runs : (nodes : List Node) (rest before : List ℕ) → NodesFit (map meant nodes) → Bytes rest → (r : Answer) × (after : List ℕ) × BoardRecords nodes rest before r after × Fits r
 board-records-runs nodes rest before h k = (
   _,
   _,
   record { κs = some3; a = (lent_slice nodes, (lent_slice rest, (lent_buffer before, tt))); s = (lent_slice nodes, (lent_slice rest, (lent_buffer _, tt))); allowed = refl; nodes-lent = refl; rest-lent = refl; buffer_lent = refl; buffer-left = refl; small = (h, k) },
-  given-fits (exported-made _ (records-small nodes rest (length before))),
+  given-fits (exported-made _ (records-told nodes rest (length before))),
 )
 
 pub board-table-runs : (bytes before : List ℕ) → Bytes bytes → (r : Answer) × (after : List ℕ) × BoardTable bytes before r after × Fits r
-board-table-runs bytes before h = (_, _, into-run (refl, refl) h, given-fits (exported-made (table_answer bytes (length before)) (table-small _ _ h)))
+board-table-runs bytes before h = (_, _, into-run (refl, refl) h, given-fits (exported-made (table_answer bytes (length before)) (table-told _ _ h)))
 
 module _ {r r' : Answer} where
   -- One outcome, whatever the pointers: what was lent the same bytes says the same,

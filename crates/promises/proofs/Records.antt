@@ -30,7 +30,7 @@ use Rattle.editor.specs.declared.Node.{Node}
 use Rattle.editor.specs.Records.{meant, same_table, records_answer}
 use Rattle.std.specs.Prelude.{Ok, Err}
 use Rattle.leaves.specs.declared.refusals.Refusal.{Refusal}
-use Rattle.board.proofs.Small.{records-small}
+use Rattle.board.proofs.Small.{records-told}
 use Rattle.promises.specs.Order.{RecordsRefuses, no_records, many_records, same_bad, Refused}
 use Rattle.promises.specs.Told.{FrontOnly}
 use Rattle.promises.proofs.Calls.{Made, Write, WriteRecords}
@@ -92,7 +92,7 @@ module _ {nodes : List Node} {rest before : List ℕ} where
 
   -- It refuses exactly by its clauses.
   pub records-refuses : {r : Made} {after : List ℕ} → WriteRecords nodes rest before r after → (n p : ℕ) → Refused r n p ↔ RecordsRefuses nodes rest (length before) n p
-  records-refuses c = made-refuses (records-says c).0 (records-small nodes rest (length before)) (records-order nodes rest (length before))
+  records-refuses c = made-refuses (records-says c).0 (records-told nodes rest (length before)) (records-order nodes rest (length before))
 
   -- After a refusal the lent buffer equals its entry; after an answer of n bytes only its first n differ.
   pub records-kept : {e : Refusal} {after : List ℕ} → WriteRecords nodes rest before (Err e) after → after ≡ before

@@ -30,9 +30,9 @@ use Rattle.meaning.proofs.Rules.{both}
 use Rattle.meaning.proofs.Faults.{not-bad, refusal-small}
 use Rattle.meaning.proofs.SheetBytes.{sheet-refusal}
 use Rattle.meaning.proofs.TableBytes.{table-refusal}
-use Rattle.meaning.proofs.Bounds.{Small, fill-small, join-small}
+use Rattle.meaning.proofs.Bounds.{Told, fill-told, join-told}
 use Rattle.meaning.proofs.Answers.{not-answered, fill-fits, join-fits, buffer-rest, buffer-kept, buffer-length}
-use Rattle.meaning.proofs.TableAnswers.{write-fits, table_fits, write-small, table-small}
+use Rattle.meaning.proofs.TableAnswers.{write-fits, table_fits, write-told, table-told}
 use Rattle.std.specs.Prelude.{Ok, Err}
 use Rattle.leaves.specs.Faults.{number_of, fault_of}
 use Rattle.leaves.specs.declared.refusals.Refusal.{Refusal}
@@ -109,29 +109,29 @@ pub check-refuses : {sheet : List ℕ} {r : Checked} → Check sheet r → (n p 
 check-refuses {sheet} c n p = rw (check-says c) (checked-order sheet _ refl n p)
 
 -- What is said by a call that writes is a refusal where its answer is.
-made-order : (a : Answer) → Small a → (n p : ℕ) → Refused (made_said a) n p ↔ (a ≡ refused n p)
+made-order : (a : Answer) → Told a → (n p : ℕ) → Refused (made_said a) n p ↔ (a ≡ refused n p)
 made-order (answered w) h n p = (λ h. absurd h, λ h. absurd (not-answered (sym h)))
 made-order (refused m q) h n p = refused-with m q n p h.0 h.1
 
 -- So it refuses exactly by the clauses R of its answer.
-pub made-refuses : {a : Answer} {r : Made} {R : ℕ → ℕ → Type 0} → r ≡ made_said a → Small a → ((n p : ℕ) → (a ≡ refused n p) ↔ R n p) → (n p : ℕ) → Refused r n p ↔ R n p
+pub made-refuses : {a : Answer} {r : Made} {R : ℕ → ℕ → Type 0} → r ≡ made_said a → Told a → ((n p : ℕ) → (a ≡ refused n p) ↔ R n p) → (n p : ℕ) → Refused r n p ↔ R n p
 made-refuses {a} s h o n p = rw s (Iff.trans (made-order a h n p) (o n p))
 
 -- `fill` refuses exactly by its clauses.
 pub fill-refuses : {template sheet before after : List ℕ} {r : Made} → Fill template sheet before r after → (n p : ℕ) → Refused r n p ↔ FillRefuses template sheet (length before) n p
-fill-refuses c = made-refuses (fill-says c).0 (fill-small _ _ _) (fill-order _ _ _)
+fill-refuses c = made-refuses (fill-says c).0 (fill-told _ _ _) (fill-order _ _ _)
 
 -- So does `join`.
 pub join-refuses : {first second before after : List ℕ} {r : Made} → Join first second before r after → (n p : ℕ) → Refused r n p ↔ JoinRefuses first second (length before) n p
-join-refuses c = made-refuses (join-says c).0 (join-small _ _ _ c.small.0 c.small.1) (join-order _ _ _)
+join-refuses c = made-refuses (join-says c).0 (join-told _ _ _ c.small.0 c.small.1) (join-order _ _ _)
 
 -- `write` refuses exactly by its clauses.
 pub write-refuses : {table before after : List ℕ} {r : Made} → Write table before r after → (n p : ℕ) → Refused r n p ↔ WriteRefuses table (length before) n p
-write-refuses c = made-refuses (write-says c).0 (write-small _ _) (write-order _ _)
+write-refuses c = made-refuses (write-says c).0 (write-told _ _) (write-order _ _)
 
 -- So does `to_table`.
 pub table-refuses : {bytes before after : List ℕ} {r : Made} → Tabled bytes before r after → (n p : ℕ) → Refused r n p ↔ TableRefuses bytes (length before) n p
-table-refuses c = made-refuses (table-says c).0 (table-small _ _ c.small) (table-order _ _)
+table-refuses c = made-refuses (table-says c).0 (table-told _ _ c.small) (table-order _ _)
 
 -- A number from m on is m, or one of those that follow.
 from : (m n : ℕ) {ms : List ℕ} → m ≤ n → (m < n → OneOf n ms) → OneOf n (m ∷ ms)

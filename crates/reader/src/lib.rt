@@ -116,7 +116,8 @@ pub struct Run {
     pub deep: usize,
 }
 
-// A payload's list after the shapes of one byte at its front, where its items are shapes alone; else as it is.
+// A payload's list after the shapes of one byte at its front, where its items are shapes alone; else as it is. By hand: the loop leaves with what is
+// left of the list, and as a `for` it took twice as long where it fell badly (docs/LOOK-BACK.md).
 fn run_of(w: &[u8], from: usize, left: usize, kind: Kind, count: usize) -> Run
     ensures is { walk_items depths (walk_shape depths left) kind count w.now (length w.now) from 0 ≡ walk_items depths (walk_shape depths left) kind result.due w.now (length w.now) result.at result.deep }
     ensures inside { (result.due ≤ count) × (result.deep ≤ left) }
@@ -129,21 +130,19 @@ fn run_of(w: &[u8], from: usize, left: usize, kind: Kind, count: usize) -> Run
     if kind.is_named() || !kind.is_shaped() {
         return run;
     }
-    for due in (0..count).rev() {
+    while 0 < run.due {
         let Ok(Head::One { depth }) = head_at(w, run.at, left) else {
             return run;
         };
-        run = Run {
-            at: run.at + 1,
-            due,
-            deep: run.deep.max(depth),
-        };
+        run.due -= 1;
+        run.at += 1;
+        run.deep = run.deep.max(depth);
     }
     run
 }
 
-// The items of a payload's list. The pair of levels left and items left falls: a shape here has these levels and no items left. A shape of one
-// byte is taken without a call.
+// The items of a payload's list. The pair of levels left and items left falls: a shape here has these levels and no items left, and each turn
+// leaves one item less. A shape of one byte is taken without a call.
 #[cycle(items_shape)]
 #[tactic(auto, using(crate::proofs::Steps::taking))]
 fn items(w: &[u8], from: usize, left: usize, kind: Kind, count: usize) -> Result<Walked, Refusal>
@@ -154,6 +153,7 @@ fn items(w: &[u8], from: usize, left: usize, kind: Kind, count: usize) -> Result
     let front = run_of(w, from, left, kind, count);
     let mut at = front.at;
     let mut deep = front.deep;
+    // The pair is this loop's measure too, as it is the cycle's (proofs/+items_shape/Invariants.antt, docs/DECISIONS.md).
     for _ in 0..front.due {
         at = payloads::label_at(w, at, kind)?.next;
         if kind.is_shaped() {

@@ -135,9 +135,9 @@ deep_is : (t : Shape) (r : Reading Shape) → r ≡ got t [] → deep_as (said r
 deep_is t r h = rw h
 
 -- A sheet that the steps accept, with slots that are its entries', is ready.
-pub ready-made : (s : List ℕ) (r : Result (List Slot) Broken) → ((i : ℕ) → get_or s i 0 < 256) → broken_at r ≡ sheet_at s → IndexSaid s (number_at s 0) (entry_place (number_at s 0) + count_size) r → ReadyIf s r
-ready-made s (Err p) b h i = tt
-ready-made s (Ok slots) b h i = record { small = b; accepted = go (read_sheet sheet_broken s) refl; placed = i }
+pub ready-made : {X : Type 0} (s : List ℕ) (slots : List Slot) (r : Result X Broken) → ((i : ℕ) → get_or s i 0 < 256) → broken_at r ≡ sheet_at s → IndexSaid s (number_at s 0) (entry_place (number_at s 0) + count_size) slots r → ReadyIf s slots r
+ready-made s slots (Err p) b h i = tt
+ready-made s slots (Ok x) b h i = record { small = b; accepted = go (read_sheet sheet_broken s) refl; placed = i }
   where
     go : (x : Reading Sheet) → read_sheet sheet_broken s ≡ x → is_sheet x ≡ true
     go (got σ v) e = refl

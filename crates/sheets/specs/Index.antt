@@ -37,9 +37,9 @@ abbrev pub IndexTo : List ℕ → List Slot → ℕ → ℕ → Type 0
 IndexTo s slots from c = (i : ℕ) → i < c → Indexed s slots from i
 
 -- so for all c of them, where the sheet is sound
-abbrev pub IndexSaid : List ℕ → ℕ → ℕ → Result (List Slot) Broken → Type 0
-IndexSaid s c from (Ok slots) = IndexTo s slots from c
-IndexSaid s c from (Err b) = Unit {0}
+abbrev pub IndexSaid : {X : Type 0} → List ℕ → ℕ → ℕ → List Slot → Result X Broken → Type 0
+IndexSaid s c from slots (Ok x) = IndexTo s slots from c
+IndexSaid s c from slots (Err b) = Unit {0}
 
 -- the sheet that accepted bytes are
 abbrev pub sheet_from : Reading Sheet → Sheet
@@ -68,9 +68,9 @@ pub record Ready (s : List ℕ) (slots : List Slot) : Type 0 where
   pub accepted : is_sheet (read_sheet sheet_broken s) ≡ true
   pub placed : IndexTo s slots (entry_place (number_at s 0) + count_size) (number_at s 0)
 
-abbrev pub ReadyIf : List ℕ → Result (List Slot) Broken → Type 0
-ReadyIf s (Ok slots) = Ready s slots
-ReadyIf s (Err b) = Unit {0}
+abbrev pub ReadyIf : {X : Type 0} → List ℕ → List Slot → Result X Broken → Type 0
+ReadyIf s slots (Ok x) = Ready s slots
+ReadyIf s slots (Err b) = Unit {0}
 
 -- the encoding of a shape within the limits stands from start to end, and the shape is so deep
 pub record PartIs (s : List ℕ) (t : Shape) (p : Part) : Type 0 where

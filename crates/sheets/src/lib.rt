@@ -51,13 +51,17 @@ fn entries_of(sheet: &[u8], count: usize) -> Result<usize, Broken>
     Ok(sum)
 }
 
-// The encodings of a sheet, from a place on, each judged by the reader as long as its entry says: the slots of the entries.
-fn encodings_at(sheet: &[u8], count: usize, from: usize) -> Result<[Slot; MAX_ENTRIES], Broken>
+// The encodings of a sheet, from a place on, each judged by the reader as long as its entry says, and put into the slots.
+fn encodings_at(
+    sheet: &[u8],
+    count: usize,
+    from: usize,
+    slots: &mut [Slot; MAX_ENTRIES],
+) -> Result<(), Broken>
     requires { (count ≤ max_entries) × (entry_place count ≤ length sheet.now) × (from + sum_from sheet.now count 0 ≤ length sheet.now) × (length sheet.now < 65536) }
     ensures is { broken_at result ≡ encodings_from sheet.now count 0 from }
-    ensures found { IndexSaid sheet.now count from result }
+    ensures found { IndexSaid sheet.now count from slots.new result }
 {
-    let mut slots = [Slot { start: 0, depth: 0 }; MAX_ENTRIES];
     let mut at = from;
     for entry in 0..count {
         let size = leaves::two_at(sheet, COUNT_SIZE + ENTRY_SIZE * entry + COUNT_SIZE);
@@ -71,7 +75,7 @@ fn encodings_at(sheet: &[u8], count: usize, from: usize) -> Result<[Slot; MAX_EN
         };
         at = end;
     }
-    Ok(slots)
+    Ok(())
 }
 
 // The second count of a sheet, at its place after the entries, whose lengths say sum together, and what follows it.
@@ -80,44 +84,43 @@ fn second_at(
     place: usize,
     count: usize,
     sum: usize,
-) -> Result<[Slot; MAX_ENTRIES], Broken>
+    slots: &mut [Slot; MAX_ENTRIES],
+) -> Result<(), Broken>
     requires { (count ≤ max_entries) × (place ≡ entry_place count) × (place ≤ length sheet.now) × (sum ≡ sum_from sheet.now count 0) }
     ensures is { broken_at result ≡ second_at sheet.now place count sum }
-    ensures found { IndexSaid sheet.now count (place + count_size) result }
+    ensures found { IndexSaid sheet.now count (place + count_size) slots.new result }
 {
-    let broken = Err(Broken { place });
     if sheet.len() - place < COUNT_SIZE {
-        return broken;
+        return Err(Broken { place });
     }
     let bytes = leaves::two_at(sheet, place);
     let from = place + COUNT_SIZE;
     let left = sheet.len() - from;
     if MAX_ENCODINGS < bytes || bytes != sum || left < bytes {
-        return broken;
+        return Err(Broken { place });
     }
     if bytes < left {
         return Err(Broken {
             place: from + bytes,
         });
     }
-    encodings_at(sheet, count, from)
+    encodings_at(sheet, count, from, slots)
 }
 
-// The slots of a sheet's entries, whatever the bytes are.
-fn slots_of(sheet: &[u8]) -> Result<[Slot; MAX_ENTRIES], Broken>
+// The slots of a sheet's entries, whatever the bytes are, put where the caller has room for them.
+fn slots_of(sheet: &[u8], slots: &mut [Slot; MAX_ENTRIES]) -> Result<(), Broken>
     ensures is { broken_at result ≡ sheet_at sheet.now }
-    ensures ready { ReadyIf sheet.now result }
+    ensures ready { ReadyIf sheet.now slots.new result }
 {
-    let broken = Err(Broken { place: 0 });
     if sheet.len() < COUNT_SIZE {
-        return broken;
+        return Err(Broken { place: 0 });
     }
     let count = leaves::two_at(sheet, 0);
     if MAX_ENTRIES < count || sheet.len() - COUNT_SIZE < ENTRY_SIZE * count {
-        return broken;
+        return Err(Broken { place: 0 });
     }
     let sum = entries_of(sheet, count)?;
-    second_at(sheet, COUNT_SIZE + ENTRY_SIZE * count, count, sum)
+    second_at(sheet, COUNT_SIZE + ENTRY_SIZE * count, count, sum, slots)
 }
 
 // Where the encoding of an entry stands, from start to end, and how deep its shape is.
@@ -142,8 +145,9 @@ impl<'a> Sheet<'a> {
     pub fn read(bytes: &'a [u8], fault: Fault) -> Result<Sheet<'a>, Refusal>
         ensures { MatchResult result (λ s. s.bytes.now ≡ bytes.now) (λ r. (r.fault ≡ fault) × (read_sheet (number_of fault) bytes.now ≡ bad (number_of fault) r.place)) }
     {
-        match slots_of(bytes) {
-            Ok(slots) => Ok(Sheet { bytes, slots }),
+        let mut slots = [Slot { start: 0, depth: 0 }; MAX_ENTRIES];
+        match slots_of(bytes, &mut slots) {
+            Ok(()) => Ok(Sheet { bytes, slots }),
             Err(broken) => Err(Refusal {
                 fault,
                 place: broken.place,

@@ -52,37 +52,39 @@ pub const DIGIT: u64 = 4;
 // The kinds of 16 levels are below this.
 const KINDS_LAID_BY: u64 = 4294967296;
 
-// What items are, as a digit of kinds. `Items::Texts` stands for every number that is none of the others.
-const PLAIN: u64 = Items::Plain as u64;
+// What items are, as a digit of kinds. TEXTS stands for every number that is none of the others.
+pub const PLAIN: u64 = Items::Plain as u64;
 
 pub const BARE: u64 = Items::Bare as u64;
 
-const FIELDS: u64 = Items::Fields as u64;
+pub const FIELDS: u64 = Items::Fields as u64;
+
+pub const TEXTS: u64 = Items::Texts as u64;
 
 // What the next byte is, as a word has it, which a host keeps: numbers, as C has them. FAULTY stands for every number that is none of the others.
 pub const HEAD: u8 = 0;
 
-const SIZE_LOW: u8 = 1;
+pub const SIZE_LOW: u8 = 1;
 
-const SIZE_HIGH: u8 = 2;
+pub const SIZE_HIGH: u8 = 2;
 
-const COUNT: u8 = 3;
+pub const COUNT: u8 = 3;
 
-const COUNT_MORE: u8 = 4;
+pub const COUNT_MORE: u8 = 4;
 
-const LENGTH: u8 = 5;
+pub const LENGTH: u8 = 5;
 
-const LENGTH_MORE: u8 = 6;
+pub const LENGTH_MORE: u8 = 6;
 
 pub const LETTERS: u8 = 7;
 
-const BLANK_LOW: u8 = 8;
+pub const BLANK_LOW: u8 = 8;
 
-const BLANK_HIGH: u8 = 9;
+pub const BLANK_HIGH: u8 = 9;
 
-const DONE: u8 = 10;
+pub const DONE: u8 = 10;
 
-const FAULTY: u8 = 11;
+pub const FAULTY: u8 = 11;
 
 // An entry that is not in use.
 pub const NO_ENTRY: Entry = Entry {

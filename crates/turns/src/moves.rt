@@ -86,7 +86,7 @@ fn count_due(stop: u16, next: u16) -> Mode
     ensures { result ≡ count_due stop next }
 {
     if stop <= next {
-        Mode::faulty(Fault::NumberWrong, next)
+        Mode::faulty(Fault::UNFINISHED, next)
     } else {
         Mode::Count
     }

@@ -28,7 +28,6 @@ use Rattle.counts.proofs.Grows.{grows, items-count, shapes-grow}
 use Rattle.counts.proofs.Counting.{part, part-is, items-next, items-end, all_of, IsList}
 use Rattle.counts.proofs.Linked.{items-linked, shape-linked}
 use Rattle.way_back.specs.declared.Put.{Put}
-use Rattle.way_back.specs.declared.PutItems.{PutItems}
 use Rattle.entries.specs.Entries.{FewOwn, Wrote, Room}
 use Rattle.way_back.specs.Puts.{FewAfter, PutIs, PutItemsIs}
 use Rattle.way_back.proofs.Texts.{plus_none}
@@ -120,7 +119,7 @@ module _ {section : Section} {inner : Passer Piece} {kind : Kind} {s : List ℕ}
 -- At the end the shapes of all items are written.
 pub turn_end : {section : Section} {inner : Passer Piece} {kind : Kind} {s : List ℕ} {from first count : ℕ} {base : Counts} {d e : List ℕ} {at to : ℕ} {there : Counts} {text k : ℕ}
     → Turn section inner kind s from first count base d e at to there text k → count ≤ k
-    → PutItemsIs section s base d e first (record { put = record { next = at; to = to; there = there }; text = text }) (pass_items pieces inner kind count s from no_items)
+    → PutItemsIs section s base d e first (record { next = at; to = to; there = there }) text (pass_items pieces inner kind count s from no_items)
 turn_end {inner = inner} {kind = kind} {s = s} {count = count} {at = at} {k = k} t z =
     rw (t.goes ∙ items-end inner kind s at t.a k count z)
     (record { wrote = t.wrote; next_is = refl; there_is = t.there_is; text_is = t.text_is; inside = t.inside })
@@ -157,20 +156,20 @@ module _ {left : ℕ} {s : List ℕ} {at : ℕ} {kind : Kind} {l : Listing} (m :
     pub own_room : {next : ℕ} → next ≡ to + length (all.shapes section base) → Room room next (own_bytes section kind all base)
     own_room n = omega (arith, all_room)
 
-  module _ {section : Section} {d e : List ℕ} {to : ℕ} {r : PutItems} {own : Counts} (v : PutItemsIs section s base d e to r (all_of left s kind l)) (is-own : own ≡ own_counts kind l.count r.text) where
+  module _ {section : Section} {d e : List ℕ} {to : ℕ} {r : Put} {text : ℕ} {own : Counts} (v : PutItemsIs section s base d e to r text (all_of left s kind l)) (is-own : own ≡ own_counts kind l.count text) where
     -- What is there after them is what the list adds to what was there before.
-    sum_is : plus r.put.there own ≡ plus base (pass_shape pieces left s at).made.counts
+    sum_is : plus r.there own ≡ plus base (pass_shape pieces left s at).made.counts
     sum_is =
         rw (is-own, v.there_is, v.text_is, m.passed, items-count (pass_shape pieces (left - 1)) kind s l.count l.from) (plus_assoc base all.counts (own_counts kind l.count all.text))
 
     -- So it is few,
-    pub sum-few : Few (plus base (pass_shape pieces left s at).made.counts) → Few (plus r.put.there own)
+    pub sum-few : Few (plus base (pass_shape pieces left s at).made.counts) → Few (plus r.there own)
     sum-few few = subst (λ (c : Counts). Few c) (sym sum_is) few
 
     -- and with the entries written the list is.
     pub list_put : {f : List ℕ} {end : ℕ} {there : Counts} → Room (length d) to ((pass_shape pieces left s at).made.bytes section base)
-        → Wrote e f r.put.to (own_bytes section kind all base) end → there ≡ plus r.put.there own
-        → PutIs section s base d f to (record { next = r.put.next; to = end; there = there }) (pass_shape pieces left s at)
+        → Wrote e f r.to (own_bytes section kind all base) end → there ≡ plus r.there own
+        → PutIs section s base d f to (record { next = r.next; to = end; there = there }) (pass_shape pieces left s at)
     list_put fits w h =
         record {
           wrote = rw m.passed (wrote_after (omega (arith, items-room section (length d) to fits)) v.wrote w);

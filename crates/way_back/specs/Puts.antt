@@ -8,7 +8,6 @@ use Rattle.counts.specs.declared.Section.TheVariants.{Nodes, Links, Names, Text}
 use Rattle.counts.specs.Pieces.{plus, Few, Piece, Gathered}
 use Rattle.entries.specs.Entries.{Wrote}
 use Rattle.way_back.specs.declared.Put.{Put}
-use Rattle.way_back.specs.declared.PutItems.{PutItems}
 
 -- a link without a name
 abbrev pub bare_entry : Section → ℕ → List ℕ
@@ -29,10 +28,10 @@ pub record PutIs (section : Section) (s : List ℕ) (base : Counts) (d e : List 
   pub there_is : r.there ≡ plus base v.made.counts
   pub inside : r.next ≤ length s
 
--- so of the shapes of a list's items, with the length of the items' texts
-pub record PutItemsIs (section : Section) (s : List ℕ) (base : Counts) (d e : List ℕ) (to : ℕ) (r : PutItems) (v : Came Gathered) : Type 0 where
-  pub wrote : Wrote d e to (v.made.shapes section base) r.put.to
-  pub next_is : r.put.next ≡ v.next
-  pub there_is : r.put.there ≡ plus base v.made.counts
-  pub text_is : r.text ≡ v.made.text
-  pub inside : r.put.next ≤ length s
+-- so of the shapes of a list's items; text is the length of the items' texts
+pub record PutItemsIs (section : Section) (s : List ℕ) (base : Counts) (d e : List ℕ) (to : ℕ) (r : Put) (text : ℕ) (v : Came Gathered) : Type 0 where
+  pub wrote : Wrote d e to (v.made.shapes section base) r.to
+  pub next_is : r.next ≡ v.next
+  pub there_is : r.there ≡ plus base v.made.counts
+  pub text_is : text ≡ v.made.text
+  pub inside : r.next ≤ length s

@@ -105,24 +105,17 @@ pub struct Put {
     pub there: Counts,
 }
 
-// So after the items of a list, and how long the items' texts are.
-#[derive(Clone, Copy)]
-pub struct PutItems {
-    pub put: Put,
-    pub text: usize,
-}
-
 // What a section gets of the shape that is next, with a payload that is no list of shapes. The place after it.
 fn put_plain(
     section: Section,
     s: &[u8],
     left: usize,
     kind: Kind,
-    from: Put,
+    from: &Put,
     out: &mut [u8],
 ) -> usize
-    requires { (from.next < length s.now) × (length s.now < 65536) × (first_at s.now from.next ≡ Long kind) × (shaped kind ≡ false) × Few (plus from.there (pass_shape pieces left s.now from.next).made.counts) × Room (length out.old) from.to ((pass_shape pieces left s.now from.next).made.bytes section from.there) }
-    ensures { Wrote out.old out.new from.to ((pass_shape pieces left s.now from.next).made.bytes section from.there) result }
+    requires { (from.now.next < length s.now) × (length s.now < 65536) × (first_at s.now from.now.next ≡ Long kind) × (shaped kind ≡ false) × Few (plus from.now.there (pass_shape pieces left s.now from.now.next).made.counts) × Room (length out.old) from.now.to ((pass_shape pieces left s.now from.now.next).made.bytes section from.now.there) }
+    ensures { Wrote out.old out.new from.now.to ((pass_shape pieces left s.now from.now.next).made.bytes section from.now.there) result }
 {
     let at = from.next;
     if kind.is_named() {
@@ -136,38 +129,31 @@ fn put_plain(
     put_node(section, VARIABLE, number, 0, out, from.to)
 }
 
-// What a section gets of the shape that is next. How far it is written then.
+// What a section gets of the shape that is next. How far it is written is lent, and not handed in and back: no shape costs a copy of all of it.
 #[cycle(put_at_put_items)]
-fn put_at(section: Section, s: &[u8], left: usize, from: Put, out: &mut [u8]) -> Put
-    requires { (from.next ≤ length s.now) × (length s.now < 65536) × (left ≤ max_levels) × Few (plus from.there (pass_shape pieces left s.now from.next).made.counts) × Room (length out.old) from.to ((pass_shape pieces left s.now from.next).made.bytes section from.there) × Linked from.there }
-    ensures { PutIs section s.now from.there out.old out.new from.to result (pass_shape pieces left s.now from.next) }
+fn put_at(section: Section, s: &[u8], left: usize, put: &mut Put, out: &mut [u8])
+    requires { (put.old.next ≤ length s.now) × (length s.now < 65536) × (left ≤ max_levels) × Few (plus put.old.there (pass_shape pieces left s.now put.old.next).made.counts) × Room (length out.old) put.old.to ((pass_shape pieces left s.now put.old.next).made.bytes section put.old.there) × Linked put.old.there }
+    ensures { PutIs section s.now put.old.there out.old out.new put.old.to put.new (pass_shape pieces left s.now put.old.next) }
 {
-    let Put {
-        next: at,
-        to,
-        there: base,
-    } = from;
+    let at = put.next;
     match steps::first_at(s, at) {
-        First::Unassigned => from,
+        First::Unassigned => {}
         First::Short { .. } => {
             let b = s[at];
-            Put {
-                next: at + 1,
-                to: put_short(section, b, base, out, to),
-                there: base + short_counts(b),
-            }
+            put.next = at + 1;
+            put.to = put_short(section, b, put.there, out, put.to);
+            put.there = put.there + short_counts(b);
         }
         First::Long { kind } => {
             if !kind.is_shaped() {
                 let part = count_plain(s, at, left, kind);
-                return Put {
-                    next: part.next,
-                    to: put_plain(section, s, left, kind, from, out),
-                    there: base + part.counts,
-                };
+                put.to = put_plain(section, s, left, kind, put, out);
+                put.next = part.next;
+                put.there = put.there + part.counts;
+                return;
             }
             if left == 0 || s.len() - at < HEAD_SIZE {
-                return from;
+                return;
             }
             let list = steps::list_at(s, at + HEAD_SIZE, kind);
             let items = Items {
@@ -176,33 +162,29 @@ fn put_at(section: Section, s: &[u8], left: usize, from: Put, out: &mut [u8]) ->
                 kind,
                 left: left - 1,
             };
-            let all = put_items(section, s, items, from, out);
-            Put {
-                next: all.put.next,
-                to: put_list(section, s, items, base, all.put.there, out, all.put.to),
-                there: all.put.there + own_counts(kind, items.count, all.text),
-            }
+            let base = put.there;
+            let text = put_items(section, s, items, put, out);
+            put.to = put_list(section, s, items, base, put.there, out, put.to);
+            put.there = put.there + own_counts(kind, items.count, text);
         }
     }
 }
 
-// What a section gets of the shapes of a list's items. The pair of levels left and items left falls, as the reader's does.
+// What a section gets of the shapes of a list's items. How long the items' texts are. The pair of levels left and items left falls, as the reader's does.
 #[cycle(put_at_put_items)]
-fn put_items(section: Section, s: &[u8], items: Items, from: Put, out: &mut [u8]) -> PutItems
-    requires { (items.from ≤ length s.now) × (length s.now < 65536) × FewAfter from.there (shapes_at s.now items).made × Room (length out.old) from.to ((shapes_at s.now items).made.shapes section from.there) × Linked from.there }
-    ensures { PutItemsIs section s.now from.there out.old out.new from.to result (shapes_at s.now items) }
+fn put_items(section: Section, s: &[u8], items: Items, put: &mut Put, out: &mut [u8]) -> usize
+    requires { (items.from ≤ length s.now) × (length s.now < 65536) × FewAfter put.old.there (shapes_at s.now items).made × Room (length out.old) put.old.to ((shapes_at s.now items).made.shapes section put.old.there) × Linked put.old.there }
+    ensures { PutItemsIs section s.now put.old.there out.old out.new put.old.to put.new result (shapes_at s.now items) }
 {
-    let mut put = Put {
-        next: items.from,
-        ..from
-    };
+    put.next = items.from;
     let mut text = 0;
     for _ in 0..items.count {
         let start = steps::past_name(s, put.next, items.kind);
         text += counts::text_size(&s[put.next..start]);
-        put = put_at(section, s, items.left, Put { next: start, ..put }, out);
+        put.next = start;
+        put_at(section, s, items.left, put, out);
     }
-    PutItems { put, text }
+    text
 }
 
 // A section of an accepted encoding's table, after its count. The place after it.
@@ -211,12 +193,13 @@ fn put_section(section: Section, count: usize, bytes: &[u8], out: &mut [u8], to:
     ensures { Wrote out.old out.new to (two_bytes count ++ (pass_shape pieces max_levels bytes.now 0).made.bytes section none) result }
 {
     put_two(out, to, count);
-    let from = Put {
+    let mut put = Put {
         next: 0,
         to: to + COUNT_SIZE,
         there: Counts::NONE,
     };
-    put_at(section, bytes, MAX_LEVELS, from, out).to
+    put_at(section, bytes, MAX_LEVELS, &mut put, out);
+    put.to
 }
 
 // How many bytes a table of so many entries has.

@@ -38,21 +38,21 @@ use Rattle.writes.specs.declared.Peek.{Peek}
 use Rattle.writes.specs.Writes.{prim_code, Items, more, pack_byte, byte_or, list_bytes, short_bytes, writes, peek_said, PeekIs, packed_said, PackedIs}
 
 -- A byte before the primitives is none,
-prim-low : (b : ℕ) → b < prim_byte 0 → prim_code (b ∷ []) ≡ None
+pub prim-low : (b : ℕ) → b < prim_byte 0 → prim_code (b ∷ []) ≡ None
 prim-low b h = rw (lt-ltb b 32 h)
 
 -- and so is one after them.
-prim-high : (b : ℕ) → prim_byte 5 ≤ b → prim_code (b ∷ []) ≡ None
+pub prim-high : (b : ℕ) → prim_byte 5 ≤ b → prim_code (b ∷ []) ≡ None
 prim-high b h = rw (le-ltb b 32 (omega arith), le-ltb b 37 h)
 
 -- What is not one byte is no primitive.
-prim-long : (x : List ℕ) → (length x ≡ 1 → ⊥) → prim_code x ≡ None
+pub prim-long : (x : List ℕ) → (length x ≡ 1 → ⊥) → prim_code x ≡ None
 prim-long [] h = refl
 prim-long (b ∷ []) h = absurd (h refl)
 prim-long (b ∷ c ∷ x) h = refl
 
 -- A primitive's number is below 5.
-prim-small : (x : List ℕ) (c : ℕ) → prim_code x ≡ Some c → c < 5
+pub prim-small : (x : List ℕ) (c : ℕ) → prim_code x ≡ Some c → c < 5
 prim-small [] c h = absurd (cc)
 prim-small (b ∷ []) c h = go (ltb b 32) (ltb b 37) refl h
   where

@@ -1,4 +1,5 @@
--- The proof of the cycle of calls {items, shape}. Levels left and items left fall as a pair: levels * 65,536 + items, at each call.
+-- The proof of the cycle of calls {items, shape}. Levels left and items left fall as a pair: levels * 65,536 + items, at each call. items reads
+-- its list in a loop, of which each turn leaves one item less.
 use Prim.Native.Nat.{◌≤◌, ◌+◌, ◌*◌, ◌-◌}
 use mathlib.Core.Path.{◌≡◌}
 use lib.ListN.{length}
@@ -18,3 +19,7 @@ invariant-items-loop l = record {
   deep : l.deep ≤ l.left;
   same : walk_items depths (walk_shape depths l.left) l.kind l.count l.w (length l.w) l.from 0 ≡ walk_items depths (walk_shape depths l.left) l.kind (l.end - l.counter) l.w (length l.w) l.at l.deep;
 }
+
+-- levels left and items left, of which a turn leaves one less
+abbrev pub decreases-items-loop : goal.decreases-items-loop
+decreases-items-loop l = l.left * 65536 + (l.end - l.counter)

@@ -12,7 +12,7 @@ use Rattle.sheets.proofs.encodings_at.Goals as goal
 
 pub loop-entry-init : goal.loop-entry-init
 unfolding sum_from
-loop-entry-init c = rw sub-zero (c.requires.2, refl, omega arith, refl, λ i h. absurd (omega arith))
+loop-entry-init c = rw sub-zero (c.requires.2, refl, omega arith, omega arith, λ i h. absurd (omega arith))
 
 pub slice_bounds-read-end : goal.slice_bounds-read-end
 slice_bounds-read-end c = let a = c.args in omega (arith, sum-turn a.sheet.now a.count c.loop-entry.entry (omega arith))

@@ -38,4 +38,4 @@ unfolding sheet_at
 returns-clause-is c = rw (← c.two_at-count.ensures.is, le-ltb max_entries c.two_at-count.result (omega arith), ← c.in_ok-sum.ensures) (simp c.second_at.ensures.is (search tests))
 
 pub returns-clause-ready : goal.returns-clause-ready
-returns-clause-ready c = ready-made c.args.sheet.now c.second_at.result (λ i. omega (arith, c.type_inv.sheet i)) (returns-clause-is c) (rw c.two_at-count.ensures.is at c.second_at.ensures.found)
+returns-clause-ready c = ready-made c.args.sheet.now c.second_at.new.slots c.second_at.result (λ i. omega (arith, c.type_inv.sheet i)) (returns-clause-is c) (rw c.two_at-count.ensures.is at c.second_at.ensures.found)

@@ -38,8 +38,8 @@ returns-then-a-eq0 c = let a = c.args in rw (at-primitive a.rest.now a.links a.n
 pub returns-else-a-eq0 : goal.returns-else-a-eq0
 returns-else-a-eq0 c = let a = c.args in rw (at-primitive a.rest.now a.links a.names a.i (node_said a.node) (omega arith) (omega arith), ne_eqb _ _ c.if-a-eq0.false)
 
-pub returns-in_default : goal.returns-in_default
-returns-in_default c = let a = c.args in rw (at_other a.rest.now a.links a.names a.i (node_said a.node) (omega arith) (omega arith))
+pub returns-in_default-2 : goal.returns-in_default-2
+returns-in_default-2 c = let a = c.args in rw (at_other a.rest.now a.links a.names a.i (node_said a.node) (omega arith) (omega arith))
 
 pub returns-else-node-eq0 : goal.returns-else-node-eq0
 returns-else-node-eq0 c = let a = c.args in rw (at_second a.rest.now a.links a.names a.i (node_said a.node) c.if-node-eq0.false, ne_eqb _ _ c.if-node-eq0.false)

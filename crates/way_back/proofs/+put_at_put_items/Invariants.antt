@@ -15,4 +15,4 @@ decreases-put_items l = l.items.left * 65536 + l.items.count
 -- the shapes so far are written, and those that are due end as the whole list does
 abbrev pub invariant-put_items-loop : goal.invariant-put_items-loop
 invariant-put_items-loop l =
-    Turn l.section (pass_shape pieces l.items.left) l.items.kind l.s l.items.from l.fn.from.to l.items.count l.fn.from.there l.initial.out l.out l.put.next l.put.to l.put.there l.text l.counter
+    Turn l.section (pass_shape pieces l.items.left) l.items.kind l.s l.items.from l.fn.put.to l.items.count l.fn.put.there l.initial.out l.out l.put.next l.put.to l.put.there l.text l.counter
