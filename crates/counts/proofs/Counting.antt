@@ -8,6 +8,7 @@
 --     text_few, shape-few                         where all items add few, so does each sum on the way
 --     none-counted                                where no shape stands, nothing is added
 --     IsList, is-list                             at a place stands a list of these items
+--     plus_none, plus_assoc                       nothing more changes no counts; they may be added in any grouping
 --     short-plus                                  a shape of one byte adds nodes and links
 --     list-few, list-sum, list_counted            a list, from what its items add
 -- Assumes nothing.
@@ -42,12 +43,12 @@ use Rattle.counts.proofs.Grows.{grows, items-count}
 none-plus : (c : Counts) → plus none c ≡ c
 none-plus c = simp zero-add
 
-plus-none : (c : Counts) → plus c none ≡ c
-plus-none c = simp add-zero
+pub plus_none : (c : Counts) → plus c none ≡ c
+plus_none c = simp add-zero
 
 -- Counts may be added in any grouping.
-plus-assoc : (a b c : Counts) → plus (plus a b) c ≡ plus a (plus b c)
-plus-assoc a b c = simp add_assoc
+pub plus_assoc : (a b c : Counts) → plus (plus a b) c ≡ plus a (plus b c)
+plus_assoc a b c = simp add_assoc
 
 -- the part of a list from at up to start, as the code takes it
 abbrev pub part : ℕ → ℕ → List ℕ → List ℕ
@@ -167,7 +168,7 @@ pub record Tallied (inner : Passer Piece) (kind : Kind) (s : List ℕ) (from cou
 
 -- At first no item is.
 pub tally-first : (inner : Passer Piece) (kind : Kind) (s : List ℕ) (from count : ℕ) (base : Counts) → from ≤ length s → Tallied inner kind s from count base from base 0 0
-tally-first inner kind s from count base i = record { a = no_items; goes = rw sub-zero; counts-are = sym (plus-none base); text_is = refl; inside = i }
+tally-first inner kind s from count base i = record { a = no_items; goes = rw sub-zero; counts-are = sym (plus_none base); text_is = refl; inside = i }
 
 module _ {inner : Passer Piece} {kind : Kind} {s : List ℕ} {from count at : ℕ} {base counts : Counts} {text k : ℕ} (t : Tallied inner kind s from count base at counts text k)
     (few : FewItems base (pass_items pieces inner kind count s from no_items).made) (due : k < count)
@@ -204,7 +205,7 @@ module _ {inner : Passer Piece} {kind : Kind} {s : List ℕ} {from count at : �
   tally-turn z h = record {
     a = more;
     goes = goes_on_lem ∙ rw h.next_is;
-    counts-are = h.counts_is ∙ rw t.counts-are (plus-assoc base t.a.counts (inner s start).made.counts);
+    counts-are = h.counts_is ∙ rw t.counts-are (plus_assoc base t.a.counts (inner s start).made.counts);
     text_is = rw (z, t.text_is, part-is at start s inside.0 shape-within);
     inside = h.inside;
   }
@@ -218,7 +219,7 @@ tally-end {inner} {kind} {s} {count = count} {at = at} {k = k} t z =
 
 -- Where no shape stands, nothing is added.
 pub none-counted : {s : List ℕ} {base : Counts} {at : ℕ} {v : Came Piece} → v ≡ came at nothing → at ≤ length s → AddedIs s base base at v
-none-counted {base = base} e i = rw e (record { next_is = refl; counts_is = sym (plus-none base); inside = i })
+none-counted {base = base} e i = rw e (record { next_is = refl; counts_is = sym (plus_none base); inside = i })
 
 -- A shape of one byte adds its links, a node for each, and its own.
 pub short-plus : (base : Counts) {links : ℕ} {c : Counts} → many (1 + links) links 0 0 ≡ c → many (base.nodes + (1 + links)) (base.links + links) base.names base.text ≡ plus base c
@@ -250,7 +251,7 @@ module _ {left : ℕ} {s : List ℕ} {at : ℕ} {kind : Kind} {l : Listing} (m :
     list_counts : plus after own ≡ plus base (pass_shape pieces left s at).made.counts
     list_counts =
         let a : Gathered = (all_of left s kind l).made in
-        rw (o, h.counts_is, h.text_is, m.passed, items-count (pass_shape pieces (left - 1)) kind s l.count l.from) (plus-assoc base a.counts (own_counts kind l.count a.text))
+        rw (o, h.counts_is, h.text_is, m.passed, items-count (pass_shape pieces (left - 1)) kind s l.count l.from) (plus_assoc base a.counts (own_counts kind l.count a.text))
 
     -- So they are few, where the list adds few,
     pub list-sum : Few (plus base (pass_shape pieces left s at).made.counts) → Few (plus after own)

@@ -24,6 +24,8 @@ pub struct Cut {
 }
 
 impl From<Refusal> for Cut {
+    ghost from_gives = { λ refusal cut. cut.fault ≡ refusal.place };
+
     fn from(refusal: Refusal) -> Cut {
         Cut {
             fault: refusal.place,

@@ -13,7 +13,7 @@
 use mathlib.Core.Path.{◌≡◌, refl, sym, subst, ◌∙◌}
 use mathlib.Core.List.{List}
 use Prim.Native.Nat.{ℕ, ◌+◌, ◌-◌, ◌≤◌, ◌<◌, max}
-use native.Mathlib.Nat.{add_assoc, sub-zero}
+use native.Mathlib.Nat.{sub-zero}
 use native.Mathlib.Omega.{arith}
 use lib.ListN.{length, length-append}
 use lib.Seq.{slice}
@@ -25,17 +25,13 @@ use Rattle.counts.specs.declared.Counts.{Counts}
 use Rattle.counts.specs.declared.Section.{Section}
 use Rattle.counts.specs.Pieces.{plus, Few, text_in, Piece, Gathered, nothing, no_items, with_item, own_counts, own_bytes, pieces, Linked}
 use Rattle.counts.proofs.Grows.{grows, items-count, shapes-grow}
-use Rattle.counts.proofs.Counting.{part, part-is, items-next, items-end, all_of, IsList}
+use Rattle.counts.specs.Counts.{FewItems}
+use Rattle.counts.proofs.Counting.{part, part-is, items-next, items-end, all_of, IsList, plus_none, plus_assoc}
 use Rattle.counts.proofs.Linked.{items-linked, shape-linked}
 use Rattle.way_back.specs.declared.Put.{Put}
 use Rattle.entries.specs.Entries.{FewOwn, Wrote, Room}
-use Rattle.way_back.specs.Puts.{FewAfter, PutIs, PutItemsIs}
-use Rattle.way_back.proofs.Texts.{plus_none}
+use Rattle.way_back.specs.Puts.{PutIs, PutItemsIs}
 use Rattle.entries.proofs.Wrote.{wrote_none, wrote_after}
-
--- Counts may be added in any grouping.
-plus_assoc : (a b c : Counts) → plus (plus a b) c ≡ plus a (plus b c)
-plus_assoc a b c = simp add_assoc
 
 -- Where no shape stands, nothing is written.
 pub put-none : {section : Section} {s : List ℕ} {base : Counts} {d : List ℕ} {at to : ℕ} {v : Came Piece} → v ≡ came at nothing → at ≤ length s
@@ -61,7 +57,7 @@ turn-first section inner kind s from first count base d i l =
 
 module _ {section : Section} {inner : Passer Piece} {kind : Kind} {s : List ℕ} {from first count : ℕ} {base : Counts} {d e : List ℕ} {at to : ℕ} {there : Counts} {text k : ℕ}
     (t : Turn section inner kind s from first count base d e at to there text k)
-    (few : FewAfter base (pass_items pieces inner kind count s from no_items).made)
+    (few : FewItems base (pass_items pieces inner kind count s from no_items).made)
     (room : Room (length d) first ((pass_items pieces inner kind count s from no_items).made.shapes section base))
     (due : k < count) {start : ℕ} (is : start ≡ past_name s at kind) where
   -- The item is passed over, and the others follow it.
@@ -131,7 +127,7 @@ module _ {left : ℕ} {s : List ℕ} {at : ℕ} {kind : Kind} {l : Listing} (m :
 
   module _ (few : Few (plus base (pass_shape pieces left s at).made.counts)) where
     -- What its items add is few after those before it.
-    pub list-few : FewAfter base all
+    pub list-few : FewItems base all
     list-few =
         let f = rw m.passed at few in
         ((omega (arith, f.0), omega (arith, f.1), omega (arith, f.2), omega (arith, f.3)), omega (arith, f.3))

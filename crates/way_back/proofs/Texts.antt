@@ -1,7 +1,6 @@
 -- Laws of a Symbol's texts (counts/specs/Pieces.antt, `gather_texts`).
 --     texts-items      the texts are items without shapes
 --     texts-counts, texts-shapes     such items have no counts and no bytes of their own
---     plus_none        nothing more changes no counts
 --     symbol-after, symbol-bytes, symbol-few     a Symbol's items add no counts; it adds its own entries only, of which there are few
 --     symbol-cut       where its head is cut off, it is a node
 --     symbol-here      a Symbol at a place of an encoding, of its bytes as the code takes them
@@ -28,7 +27,7 @@ use Rattle.steps.proofs.Passing.{shape-symbol}
 use Rattle.counts.specs.declared.Counts.{Counts}
 use Rattle.counts.specs.declared.Section.{Section}
 use Rattle.counts.specs.Pieces.{none, plus, Few, node_entry, nothing, Gathered, no_items, with_item, own_bytes, list_piece, gather_texts, symbol_piece, pieces, inner}
-use Rattle.counts.proofs.Counting.{part-is}
+use Rattle.counts.proofs.Counting.{part-is, plus_none}
 use Rattle.entries.specs.Entries.{FewOwn, items_at}
 
 module _ (w : List ℕ) where
@@ -49,10 +48,6 @@ module _ (w : List ℕ) where
   unfolding gather_texts
   texts-shapes section before zero at a h = h
   texts-shapes section before (suc c) at a h = texts-shapes section before c (past_name w at Symbol) (with_item a (slice at (past_name w at Symbol) w) nothing) (rw h)
-
--- Nothing more changes no counts.
-pub plus_none : (base : Counts) → plus base none ≡ base
-plus_none base = simp add-zero
 
 module _ (w : List ℕ) (list : Listing) (is : list ≡ list_at w head_size Symbol) where
   -- the items of a Symbol

@@ -1,11 +1,11 @@
 -- What the private functions do, by places in the encoding s and in the lent buffer. No public contract cites it.
-use Rattle.std.specs.Prelude.{ℕ, ◌≤◌, ◌<◌, ◌≡◌, List, [], ◌++◌, length}
+use Rattle.std.specs.Prelude.{ℕ, ◌≤◌, ◌≡◌, List, [], ◌++◌, length}
 use Rattle.meaning.specs.Numbers.{two_bytes}
 use Rattle.steps.specs.Pass.{Came}
 use Rattle.counts.specs.declared.Counts.{Counts}
 use Rattle.counts.specs.declared.Section.{Section}
 use Rattle.counts.specs.declared.Section.TheVariants.{Nodes, Links, Names, Text}
-use Rattle.counts.specs.Pieces.{plus, Few, Piece, Gathered}
+use Rattle.counts.specs.Pieces.{plus, Piece, Gathered}
 use Rattle.entries.specs.Entries.{Wrote}
 use Rattle.way_back.specs.declared.Put.{Put}
 
@@ -15,10 +15,6 @@ bare_entry Nodes target = []
 bare_entry Links target = two_bytes target ++ two_bytes 0
 bare_entry Names target = []
 bare_entry Text target = []
-
--- what the items of a list add is few, where so many are there before the list
-abbrev pub FewAfter : Counts → Gathered → Type 0
-FewAfter base a = Few (plus base a.counts) × (a.text < 65536)
 
 -- what a section gets of a shape was written, which is what the pass makes of it, where so many entries are there before it; r says the places after it and
 -- how many entries are there then

@@ -13,9 +13,9 @@ ghost use Rattle.payloads.specs.Payload.{shaped};
 ghost use Rattle.steps.specs.Steps.{first_at};
 ghost use Rattle.steps.specs.Pass.{pass_shape};
 ghost use Rattle.counts.specs.Pieces.{none, plus, Few, packed_array, packed_map, list_piece, short_piece, symbol_piece, pieces, Linked, table_size, sections};
-ghost use Rattle.counts.specs.Counts.{shapes_at};
+ghost use Rattle.counts.specs.Counts.{FewItems, shapes_at};
 ghost use Rattle.entries.specs.Entries.{Wrote, Room};
-ghost use Rattle.way_back.specs.Puts.{bare_entry, FewAfter, PutIs, PutItemsIs};
+ghost use Rattle.way_back.specs.Puts.{bare_entry, PutIs, PutItemsIs};
 
 use buffers::put_two;
 use counts::items::Items;
@@ -173,7 +173,7 @@ fn put_at(section: Section, s: &[u8], left: usize, put: &mut Put, out: &mut [u8]
 // What a section gets of the shapes of a list's items. How long the items' texts are. The pair of levels left and items left falls, as the reader's does.
 #[cycle(put_at_put_items)]
 fn put_items(section: Section, s: &[u8], items: Items, put: &mut Put, out: &mut [u8]) -> usize
-    requires { (items.from ≤ length s.now) × (length s.now < 65536) × FewAfter put.old.there (shapes_at s.now items).made × Room (length out.old) put.old.to ((shapes_at s.now items).made.shapes section put.old.there) × Linked put.old.there }
+    requires { (items.from ≤ length s.now) × (length s.now < 65536) × FewItems put.old.there (shapes_at s.now items).made × Room (length out.old) put.old.to ((shapes_at s.now items).made.shapes section put.old.there) × Linked put.old.there }
     ensures { PutItemsIs section s.now put.old.there out.old out.new put.old.to put.new result (shapes_at s.now items) }
 {
     put.next = items.from;
